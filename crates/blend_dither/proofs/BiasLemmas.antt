@@ -1,4 +1,4 @@
--- Lanes of dither offsets, four added to each.
+-- Lanes of dither offsets, with 4 added to each.
 use Rattle.std.proofs.Common.{◌≡◌, ℕ, ◌<◌, List, length, get_or, replicate, map, Fits, w16, ℤ, pos, ◌+ℤ◌, ◌≤ℤ◌, to_z}
 use Rattle.std.proofs.Common.{of_z, SFits, T, ap, ◌∙◌, arith}
 use lib.IntN.{nat_abs}
@@ -12,14 +12,14 @@ use Rattle.px_num.proofs.LaneOps.{each2, long_splat, at_splat}
 use Rattle.blend_dither.specs.Color.{IsShift}
 use Rattle.blend_dither.proofs.Offsets.{low_bias}
 
--- two lanes added as signed numbers, and the fact that the sum fits
+-- two lanes added as signed numbers; the sum fits
 abbrev sum : ℕ → ℕ → ℕ
 sum a b = of_z w16 (to_z w16 a +ℤ to_z w16 b)
 
 abbrev SumFits : ℕ → ℕ → Type 0
 SumFits a b = SFits w16 (to_z w16 a +ℤ to_z w16 b)
 
--- a signed lane as an unsigned one, and the fact that nothing is lost
+-- a signed lane as an unsigned one; no bits are lost
 abbrev unsigned : ℕ → ℕ
 unsigned a = nat_abs (to_z w16 a)
 
@@ -99,7 +99,7 @@ module _ (shifts : List ℤ) (long : length shifts ≡ 16)
   pub biased_low : (i : ℕ) → i < 16 → get_or (biases shifts) i 0 < 8
   biased_low i lt = low_bias _ _ (small i lt) (at_biased i lt)
 
-  -- what a call gets of signed lanes that are handed on
+  -- the signed lanes that are passed to a call
   pub at_again : (i : ℕ) → i < 16 → get_or (map (to_z w16) (bits shifts)) i (pos 0) ≡ get_or shifts i (pos 0)
   at_again i lt =
       let e = long_bits in

@@ -1,4 +1,4 @@
--- Each dither offset is small.
+-- Each dither offset is from -4 to 3.
 use Rattle.std.proofs.Common.{ℕ, ◌<◌, ◌+◌, ◌-◌, ◌*◌, ◌/◌, min, ap, pos, negsuc, get_or, arith, ◌≡◌, ℤ, to_z, of_z, w8}
 use Rattle.std.proofs.Common.{SFits}
 use Rattle.std.proofs.lemmas.Int.{ints, to_z-of_z}
@@ -21,7 +21,7 @@ small_read z small =
 pub low_bias : (b : ℕ) (s : ℤ) → IsShift s → IsBias b s → b < 8
 low_bias b s small is = omega (arith, ints)
 
--- the tone by an offset's bias
+-- a five-bit channel computed from the offset's bias
 pub tone_by_bias : (c b : ℕ) (s : ℤ) → IsBias b s → min (c + b - 4) 255 / 8 ≡ tone_channel c s
 tone_by_bias c b (pos s) is = ap (λ n. n / 8) (omega (arith, ints))
 tone_by_bias c b (negsuc s) is = ap (λ n. n / 8) (omega (arith, ints))

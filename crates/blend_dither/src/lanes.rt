@@ -1,4 +1,4 @@
-// The operations on sixteen lanes that are colours' own.
+// Operations on sixteen lanes that only colours need.
 ghost use Rattle.std.specs.Prelude.{◌≡◌, ◌<◌, ◌%◌, length, slice_index, slice_index_or, pos};
 ghost use Rattle.px_num.specs.Lanes.{EachLane};
 ghost use Rattle.blend_dither.specs.Color.{IsShift};
@@ -6,7 +6,7 @@ ghost use Rattle.blend_dither.specs.Bias.{IsBias};
 
 use std::simd::prelude::*;
 
-/// The low five bits of each lane.
+/// Returns the low five bits of each lane.
 pub fn low5(a: u16x16) -> u16x16
     requires { length a ≡ 16 }
     ensures long { length result ≡ 16 }
@@ -15,7 +15,7 @@ pub fn low5(a: u16x16) -> u16x16
     a & u16x16::splat(31)
 }
 
-/// Four more than each dither offset, which is 0 to 7.
+/// Returns each dither offset (-4 to 3) plus 4, which is 0 to 7.
 pub fn biased(shifts: i16x16) -> u16x16
     requires long { length shifts ≡ 16 }
     requires small { EachLane (λ i. IsShift (slice_index_or shifts i (pos 0))) }

@@ -1,7 +1,7 @@
-//! Laws on colours. Each stands in the contract of a function that does nothing.
+//! Laws on colours. Each is the contract of a function that does nothing.
 ghost use Rattle.blend_dither.specs.Laws.{NeutralLaw};
 
-/// The colour 808080h without dither leaves a texel, but for its bit 15.
+/// Modulation by the colour 808080h without dither returns the texel with bit 15 cleared.
 pub fn neutral_color()
     ensures { NeutralLaw }
 {}

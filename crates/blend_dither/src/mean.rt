@@ -1,4 +1,4 @@
-// The mean of two pixels in each lane, their channels side by side.
+// The mean of two pixels in each lane. Each pixel is a halfword with three channels of five bits.
 ghost use Rattle.std.specs.Prelude.{◌≡◌, ◌<◌, ◌/◌, ◌%◌, ◌^◌, length, slice_index};
 ghost use Rattle.px_num.specs.Lanes.{EachLane};
 ghost use Rattle.blend_dither.specs.Color.{blended_of, packed};
@@ -6,7 +6,7 @@ ghost use Rattle.blend_dither.specs.Color.{blended_of, packed};
 use px_num::lanes::{add, low_bits, mul, shifted_down, splat, sub_or_zero};
 use std::simd::prelude::*;
 
-// The lowest bit of each channel, in its place.
+// Returns the lowest bit of each channel, in its position.
 fn low_ones(a: u16x16) -> u16x16
     requires { length a ≡ 16 }
     ensures long { length result ≡ 16 }
@@ -18,8 +18,8 @@ fn low_ones(a: u16x16) -> u16x16
     add(add(low_bits(a, 1), green), blue)
 }
 
-/// Half the sum of each channel, rounded down: where the sum of a channel is odd, one is taken away before all are
-/// halved, so that no channel gives a bit to the next one.
+/// Returns half the sum of each channel, rounded down. If the sum of a channel is odd, 1 is subtracted before all
+/// channels are halved by one shift. So no bit moves from one channel into the next.
 #[tactic(auto, using(crate::proofs::MeanLemmas::mean_is))]
 pub(crate) fn mean_lanes(back: u16x16, front: u16x16) -> u16x16
     requires { (length back ≡ 16) × (length front ≡ 16) }

@@ -4,11 +4,11 @@ ghost use Rattle.blend_dither.specs.Color.{dither_offset, dither_offsets, IsShif
 ghost use Rattle.blend_dither.specs.Color.{shifted_channel, red_of, green_of, blue_of, modulated_of, modulated_channel};
 ghost use Rattle.blend_dither.specs.Color.{blended_of, blended_channel, packed, packed_pixel};
 
-// The offsets of a block of four rows of four cells, row after row.
+// The dither offsets of four rows of four cells, row by row.
 const DITHER: [i8; 16] = [-4, 0, -3, 1, 2, -2, 3, -1, -3, 1, -4, 0, 3, -1, 2, -2];
 
-/// The dither offset of the cell (x, y), which is -4 to 3 and repeats every four rows and every four columns
-/// (psx-spx, "GPU Rendering Attributes").
+/// Returns the dither offset of the cell (`x`, `y`), from -4 to 3. The offsets repeat every four rows and every four
+/// columns (psx-spx, "GPU Rendering Attributes").
 pub fn shift_at(x: u16, y: u16) -> i8
     ensures value { result ≡ dither_offset x y }
     ensures small { IsShift result }
@@ -16,9 +16,10 @@ pub fn shift_at(x: u16, y: u16) -> i8
     offset_at((4 * (y % 4) + x % 4) as usize)
 }
 
-/// A colour as a halfword: each channel plus the dither offset, brought into 0 to 255 and divided by 8.
+/// Returns a 24-bit colour as a 15-bit halfword. The dither offset is added to each channel; the sum is clamped to 0
+/// to 255 and divided by 8.
 ///
-/// `shift` is -4 to 3, and 0 without dither.
+/// `shift` is the dither offset, from -4 to 3, and 0 without dither.
 pub fn tone(color: u32, shift: i8) -> u16
     requires { IsShift shift }
     ensures value { result ≡ tone_of (red_of color) (green_of color) (blue_of color) shift }
@@ -31,10 +32,10 @@ pub fn tone(color: u32, shift: i8) -> u16
     )
 }
 
-/// A texel under a colour (psx-spx, "GPU Rendering Attributes"; the whole numbers are our own rule).
+/// Returns a texel modulated by a colour (psx-spx, "GPU Rendering Attributes"; the exact integers are our own rule).
 ///
-/// Each channel is `8 * texel * color / 128` plus the dither offset, brought into 0 to 255 and divided by 8.
-/// So the colour 808080h without dither leaves the texel. `shift` is -4 to 3, and 0 without dither.
+/// Each channel is `8 * texel * color / 128` plus the dither offset `shift`, clamped to 0 to 255 and divided by 8. So
+/// the colour 808080h without dither leaves the channels unchanged. `shift` is from -4 to 3, and 0 without dither.
 pub fn modulate(texel: u16, color: u32, shift: i8) -> u16
     requires { IsShift shift }
     ensures value { result ≡ modulated_of texel (red_of color) (green_of color) (blue_of color) shift }
@@ -47,11 +48,11 @@ pub fn modulate(texel: u16, color: u32, shift: i8) -> u16
     )
 }
 
-/// A semi-transparent pixel over a cell, channel by channel (psx-spx, "GPU Rendering Attributes"; the whole
-/// numbers are our own rule).
+/// Returns the blend of a semi-transparent pixel `front` with a cell `back`, channel by channel (psx-spx, "GPU
+/// Rendering Attributes"; the exact integers are our own rule).
 ///
-/// The mode is 0 for the half of the sum, 1 for the sum, 2 for the cell less the pixel, and 3 for the cell
-/// and a quarter of the pixel. Sums above 31 become 31 and differences below 0 become 0.
+/// `mode` is 0 for half the sum, 1 for the sum, 2 for `back` minus `front`, and 3 for `back` plus a quarter of
+/// `front`. Half and quarter are rounded down. Results above 31 become 31, and those below 0 become 0.
 pub fn blend(mode: u8, back: u16, front: u16) -> u16
     requires { mode ≤ 3 }
     ensures value { result ≡ blended_of mode back front }
@@ -64,7 +65,8 @@ pub fn blend(mode: u8, back: u16, front: u16) -> u16
     )
 }
 
-/// Bits 0 to 14 of a colour, with bit 15 set where it is `high`, the texel's, or `forced` by the mask setting.
+/// Returns bits 0 to 14 of `color`. Bit 15 is set if `high`, the texel's bit 15, or `forced`, bit 0 of the mask
+/// setting, is true.
 pub fn pack(color: u16, high: bool, forced: bool) -> u16
     ensures { result ≡ packed_pixel color high forced }
 {

@@ -9,7 +9,7 @@ use crate::mean::mean_lanes;
 use px_num::lanes::{add, mul, shifted_down, smaller, splat, sub_or_zero};
 use std::simd::prelude::*;
 
-/// [`tone`](crate::tone) in each lane, of channels that are at most 255.
+/// Returns [`tone`](crate::tone) in each lane, with dither offsets `shifts`. The channels must be at most 255.
 pub fn tone_lanes(red: u16x16, green: u16x16, blue: u16x16, shifts: i16x16) -> u16x16
     requires long { (length red ≡ 16) × (length green ≡ 16) × (length blue ≡ 16)
         × (length shifts ≡ 16) }
@@ -29,7 +29,7 @@ pub fn tone_lanes(red: u16x16, green: u16x16, blue: u16x16, shifts: i16x16) -> u
     )
 }
 
-/// [`tone`](crate::tone) without dither in each lane, of channels that are at most 255.
+/// Returns [`tone`](crate::tone) without dither in each lane. The channels must be at most 255.
 #[inline(always)]
 pub fn undithered_tone_lanes(red: u16x16, green: u16x16, blue: u16x16) -> u16x16
     requires long { (length red ≡ 16) × (length green ≡ 16) × (length blue ≡ 16) }
@@ -47,7 +47,8 @@ pub fn undithered_tone_lanes(red: u16x16, green: u16x16, blue: u16x16) -> u16x16
     )
 }
 
-/// [`modulate`](crate::modulate) in each lane, by colours' channels that are at most 255.
+/// Returns [`modulate`](crate::modulate) in each lane, with dither offsets `shifts`. The colours' channels must be at
+/// most 255.
 pub fn modulate_lanes(
     texels: u16x16,
     red: u16x16,
@@ -74,7 +75,7 @@ pub fn modulate_lanes(
     )
 }
 
-/// [`blend`](crate::blend) in each lane.
+/// Returns [`blend`](crate::blend) in each lane. `mode` is at most 3.
 pub fn blend_lanes(mode: u8, back: u16x16, front: u16x16) -> u16x16
     requires mode { mode ≤ 3 }
     requires long { (length back ≡ 16) × (length front ≡ 16) }
@@ -90,7 +91,7 @@ pub fn blend_lanes(mode: u8, back: u16x16, front: u16x16) -> u16x16
     }
 }
 
-// The same, channel by channel.
+// As [`blend_lanes`], for any mode, computed channel by channel.
 fn blended_channels(mode: u8, back: u16x16, front: u16x16) -> u16x16
     requires mode { mode ≤ 3 }
     requires long { (length back ≡ 16) × (length front ≡ 16) }
@@ -128,7 +129,7 @@ fn pack_lanes(red: u16x16, green: u16x16, blue: u16x16) -> u16x16
     add(add(red, green_part), blue_part)
 }
 
-// Each channel plus its bias less 4, brought into 0 to 255 and divided by 8.
+// Returns each channel plus `bias` minus 4, clamped to 0 to 255 and divided by 8.
 fn shifted_lanes(channels: u16x16, bias: u16x16) -> u16x16
     requires long { (length channels ≡ 16) × (length bias ≡ 16) }
     requires low { EachLane (λ i. slice_index channels i < 1024) }

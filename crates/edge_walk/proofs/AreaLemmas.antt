@@ -1,4 +1,4 @@
--- The area of a triangle, and what the sums of its attributes are divided by.
+-- The area of a triangle, and the divisor of the sums of its attributes.
 use Rattle.std.proofs.Common.{◌≤◌, ◌≡◌, ℤ, pos, ◌-ℤ◌, ◌*ℤ◌, ◌≤ℤ◌, int_lt, true, false, cond}
 use Rattle.std.proofs.Common.{unsigned_abs, refl, sym, ap, ◌∙◌, arith}
 use Rattle.std.proofs.lemmas.Int.{ints, unsigned_abs-mul}
@@ -37,7 +37,7 @@ area_oriented t =
     ≡ unsigned_abs (doubled_area t))
     [ true ↦ omega (arith, ints) | false ↦ refl ]
 
--- a divisor is that of an area
+-- a divisor is made from the doubled area of the triangle
 pub record IsAreaOf (d : Divisor) (t : Corners) : Type 0 where
   pub divisor : IsDivisor d
   pub is : pos d.area ≡ doubled_area t

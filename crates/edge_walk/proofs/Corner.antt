@@ -1,4 +1,4 @@
--- The three corners of a triangle in their two orders.
+-- The three corners of a triangle in both orders.
 use Rattle.std.proofs.Common.{◌≡◌, ℤ, pos, ◌+ℤ◌, ◌-ℤ◌, ◌*ℤ◌, ◌<ℤ◌, arith, Bool, true, false, ◌&&◌}
 use Rattle.std.proofs.Common.{refl, sym, ap, ◌∙◌, int_lt}
 use Rattle.std.proofs.lemmas.Int.{ints}
@@ -44,7 +44,7 @@ area_next : (a b c : Vertex) → doubled_area (corners b c a) ≡ doubled_area (
 unfolding edge
 area_next a b c = same (poly_edge b c a.x a.y) (poly_edge a b c.x c.y) (omega arith)
 
--- the same triangle from its second vertex on
+-- the same triangle, starting at its second vertex
 pub upright_next : (a b c : Vertex) → IsUpright (corners a b c) → IsUpright (corners b c a)
 upright_next a b c h = record {
   small = record { one = h.small.two; two = h.small.three; three = h.small.one };
@@ -52,7 +52,7 @@ upright_next a b c h = record {
       omega (arith, ints, h.area);
 }
 
--- the three vertices are not in one row
+-- the three vertices are not all in one row
 pub not_level : (a b c : Vertex) → IsUpright (corners a b c) → a.y ≡ b.y → b.y ≡ c.y → ⊥
 unfolding edge
 not_level a b c h e f =
@@ -81,7 +81,7 @@ upright_turned t h e = IsUpright-turned t.first t.second t.third h.small (omega 
 pub upright_kept : (t : Corners) → IsDrawn t → false ≡ int_lt (doubled_area t) (pos 0) → IsUpright t
 upright_kept t h e = record { small = h.small; area = omega (arith, ints, h.area) }
 
--- what is said of the oriented triangle, of one that is known by its vertices
+-- the cells inside of an oriented triangle that is given by its vertices
 pub inside_is : (t : Corners) (a b c : Vertex) → corners a b c ≡ oriented t → (x y : ℤ) → is_inside t x y
     ≡ is_within (corners a b c) x y
 inside_is t a b c e x y = ap (λ w. is_within w x y) (sym e)

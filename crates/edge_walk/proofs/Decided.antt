@@ -1,4 +1,4 @@
--- Whether a triangle is drawn, as a fact and as a test.
+-- Whether a triangle is drawn, as a proposition and as a test.
 use Rattle.std.proofs.Common.{ℕ, ◌≤◌, ◌≡◌, ◌≢◌, ℤ, pos, ◌↔◌, IsTrue, Bool, true, false, not, leb, eqb, unsigned_abs}
 use Rattle.std.proofs.Common.{refl, sym, arith}
 use Rattle.std.proofs.lemmas.Bool.Decides.{nat_tests}

@@ -36,7 +36,7 @@ reciprocal_exact s a p some bound large =
     (at_least s a p (s / a) (p / a) sum.0 sum.1 whole.0 whole.1)
     (less s a p (s / a) (p / a) sum.0 sum.1 whole.0 whole.1 bound large)
 
--- such a product is small
+-- such a product is small enough
 pub reciprocal_bound : (s a p : ℕ) → 0 < a → s ≤ 255 * a → s * (p / a + 1) ≤ 255 * (p + a)
 reciprocal_bound s a p some bound =
     let whole = split p a some in

@@ -1,4 +1,4 @@
--- A cell inside a triangle lies in the box of its corners: it is their mean, weighted by edge values.
+-- A cell inside a triangle is in its bounding box: it is the mean of the corners, weighted by edge values.
 use Rattle.std.proofs.Common.{◌<◌, ◌≡◌, ℤ, pos, negsuc, ◌+ℤ◌, ◌-ℤ◌, ◌*ℤ◌, ◌≤ℤ◌, ◌<ℤ◌, IsTrue, true, false, Bool, int_lt}
 use Rattle.std.proofs.Common.{cond, refl, arith}
 use Rattle.std.proofs.lemmas.Int.{ints, clamps, by_lt_z}
@@ -34,7 +34,7 @@ module _ (ax ay bx by_ cx cy : ℤ) where
   balance_y = same (add (add (mul (poly_cross bx by_ cx cy) (at ay)) (mul (poly_cross cx cy ax ay) (at by_)))
       (mul (poly_cross ax ay bx by_) (at cy))) (at (pos 0)) (omega arith)
 
--- weights of 0 and more, not all 0, that three numbers balance
+-- weights of at least 0, not all 0, that balance three numbers
 record AreWeights (u v w a b c : ℤ) : Type 0 where
   one : pos 0 ≤ℤ u
   two : pos 0 ≤ℤ v

@@ -1,4 +1,4 @@
--- Sums over an area that grow from cell to cell, in numbers that wrap.
+-- Sums times the reciprocal that grow from cell to cell, modulo 2^64.
 use Rattle.std.proofs.Common.{ℕ, ◌+◌, ◌-◌, ◌*◌, ◌/◌, ◌%◌, ◌^◌, ◌≤◌, ◌<◌, ◌≡◌, ℤ, pos, ◌+ℤ◌, ◌*ℤ◌, ◌≤ℤ◌, int_lt}
 use Rattle.std.proofs.Common.{unsigned_abs, Bool, true, false, cond, zero, suc, refl, sym, ap, ◌∙◌, arith}
 use Rattle.std.proofs.Math.Nat.{add-mul-mod_self_right, mod_self, mod-eq_of_lt, mul-le-mul_left, mul-le-mul_right}
@@ -9,7 +9,7 @@ use Rattle.edge_walk.specs.Line.{wrapped, scaled, line_value}
 use Rattle.edge_walk.proofs.DivisorLemmas.{reciprocal_bound, split, divided}
 use Rattle.edge_walk.proofs.NearLemmas.{IsNear, short_sum, near}
 
--- p is the sum that is meant, and u what stands there: they differ by a multiple of w
+-- u equals p plus a multiple of w, and p is below w
 same_mod : (u p k w : ℕ) → p < w → u ≡ p + k * w → u % w ≡ p
 same_mod u p k w lt e = ap (λ z. z % w) e ∙ add-mul-mod_self_right p k w ∙ mod-eq_of_lt lt
 
@@ -23,7 +23,7 @@ module _ (w start r i n s q rest : ℕ) (whole : n * r ≡ q * w + rest) (small 
   falling e t up turn = same_mod (start * r + up * i) (s * r) (q * i + t * i) w small
       (omega (arith, ap (λ z. z * i) whole, ap (λ z. z * i) turn, ap (λ z. z * r) e))
 
--- what a size counted down and the size make together
+-- a number and its negation modulo w add up to a multiple of w
 turned : (rest w : ℕ) → rest < w → (t : ℕ) × ((w - rest) % w + rest ≡ t * w)
 turned zero w lt =
     let whole : w - 0 ≡ w = omega arith in
@@ -31,7 +31,7 @@ turned zero w lt =
 turned (suc rest) w lt =
     (1, (let less : w - suc rest < w = omega arith in let same = mod-eq_of_lt less in omega (arith, same, lt)))
 
--- the sum i cells further, by the steps as they are held
+-- the sum i cells to the right, computed from the stored steps
 module _ (w start r i n s : ℕ) (some : 0 < w) (small : s * r < w) where
   halves : n * r ≡ n * r / w * w + n * r % w
   halves = omega (arith, some)
@@ -97,7 +97,7 @@ near_exact s a r sum some most bound r_is near_sum =
     (not_less s a r (s / a) sum parts.0 parts.1 over under near_sum)
     (not_more s a r (s / a) sum parts.0 parts.1 over under near_sum most bound)
 
--- the attribute at + j cells further
+-- the attribute at + j cells to the right
 pub line_is : (start at j area r : ℕ) (step : ℤ) → j < 16 → 0 < area → area ≤ 1045506 → r ≡ 2 ^ 56 / area + 1
     → pos 0 ≤ℤ (pos start +ℤ step *ℤ pos (at + j)) → unsigned_abs (pos start +ℤ step *ℤ pos (at + j)) ≤ 255 * area
     → line_value (record { first = start * r; step = scaled step r }) at j

@@ -1,4 +1,4 @@
--- Attributes of a cell by its weights.
+-- Attributes of a cell from its weights.
 use Rattle.std.proofs.Common.{ℕ, ◌+◌, ◌*◌, ◌/◌, ◌≡◌, ℤ, pos, ◌≤ℤ◌, IsTrue, unsigned_abs, refl, sym, ap, ◌∙◌, arith}
 use Rattle.std.proofs.lemmas.Int.{ints}
 use Rattle.px_num.specs.declared.shape.Vertex.{Vertex}
@@ -7,7 +7,7 @@ use Rattle.edge_walk.specs.Triangle.{corners, doubled_area, edge, is_within, IsS
 use Rattle.edge_walk.proofs.AreaLemmas.{area_small}
 use Rattle.edge_walk.proofs.WeightLemmas.{weights_of}
 
--- a value of an edge is a weight: 0 or more, and not more than the area
+-- an edge value that is a weight: at least 0, and at most the greatest area
 pub record IsWeight (value : ℤ) : Type 0 where
   pub low : pos 0 ≤ℤ value
   pub high : value ≤ℤ pos 1045506

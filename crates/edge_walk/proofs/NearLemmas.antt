@@ -1,14 +1,14 @@
 -- Attributes along a row in 32 bits.
 use Rattle.std.proofs.Common.{ℕ, zero, suc, ◌+◌, ◌-◌, ◌*◌, ◌/◌, ◌%◌, ◌^◌, ◌≤◌, ◌<◌, ◌≡◌, arith}
 
--- lane j of a line, in 32 bits: `first` is the line's number at the cell that lies `at` cells from its own, and w what
--- its step has added
+-- lane j of a line, in 32 bits: `first` is the number of the line's first cell, and w the sum of the steps to the
+-- first of the sixteen cells
 abbrev pub short_sum : ℕ → ℕ → ℕ → ℕ → ℕ
 short_sum j first w step =
     ((j + (2 ^ 32 - 8)) % 2 ^ 32 * ((step + 2 ^ 31) % 2 ^ 64 / 2 ^ 32) % 2 ^ 32 +
     ((first + (w + step * 8)) % 2 ^ 64 / 2 ^ 32 + 8) % 2 ^ 32) % 2 ^ 32
 
--- it is above the exact sum, and by no more than twelve units
+-- 2^32 times the sum exceeds the exact number by 3 to 12 units of 2^32
 pub record IsNear (sum exact : ℕ) : Type 0 where
   pub above : exact + 3 * 2 ^ 32 ≤ 2 ^ 32 * sum
   pub below : 2 ^ 32 * sum ≤ exact + 12 * 2 ^ 32

@@ -1,4 +1,4 @@
--- Numbers of a plane, which wrap.
+-- Numbers of a plane, modulo 2^64.
 use Rattle.std.proofs.Common.{ℕ, ◌+◌, ◌-◌, ◌*◌, ◌/◌, ◌%◌, ◌^◌, ◌<◌, ◌≡◌, ℤ, pos, int_lt}
 use Rattle.std.proofs.Common.{unsigned_abs, Bool, true, false, refl, sym, ap, ◌∙◌, arith}
 use Rattle.std.proofs.Math.Nat.{add-mul-mod_self_right, mod-eq_of_lt}
@@ -6,7 +6,7 @@ use Rattle.std.proofs.lemmas.Int.{ints}
 use borrow.Author.Differences.{up, down}
 use Rattle.edge_walk.specs.Line.{wrapped, scaled}
 
--- u is the product of a step and r, but for multiples of m
+-- u equals the product of a step and r modulo m
 pub record IsScaled (u : ℕ) (step : ℤ) (r m : ℕ) : Type 0 where
   pub less : ℕ
   pub more : ℕ
@@ -32,13 +32,13 @@ pub scaled_is : (step : ℤ) (r : ℕ) → IsScaled (scaled step r) step r (2 ^ 
 unfolding scaled
 scaled_is step r = scaled_by (int_lt step (pos 0)) step r refl
 
--- two numbers that differ by multiples of m, of which one is below m
+-- two numbers that differ by multiples of m, one of them below m
 same_rest : (u s k l m : ℕ) → s < m → u + k * m ≡ s + l * m → u % m ≡ s
 same_rest u s k l m lt e = sym (add-mul-mod_self_right u k m) ∙ ap (λ z. z % m) e ∙ add-mul-mod_self_right s l m
     ∙ mod-eq_of_lt lt
 
 module _ (base across down_ s start r m xa ya x y ua da ud dd : ℕ) where
-  -- the sum s at (xa, ya) and that at (x, y); a step is ua - da across and ud - dd down
+  -- the sums at (xa, ya), which is s, and at (x, y); a step is ua - da across and ud - dd down
   moved : (k l al am dl dm : ℕ) → base + across * xa + down_ * ya + k * m ≡ s * r + l * m
       → across + da * r + al * m ≡ ua * r + am * m → down_ + dd * r + dl * m ≡ ud * r + dm * m
       → start + ua * xa + da * x + ud * ya + dd * y ≡ s + ua * x + da * xa + ud * y + dd * ya

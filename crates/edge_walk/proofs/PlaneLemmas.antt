@@ -17,7 +17,7 @@ use Rattle.edge_walk.proofs.NumberLemmas.{number_is, scaled_is}
 use Rattle.edge_walk.proofs.ShareLemmas.{sum_here, IsCounted}
 use Rattle.edge_walk.proofs.SumLemmas.{lane_is, sum_at, sum_small}
 
--- a plane is that of an attribute at (x, y)
+-- a plane has the attribute's value at (x, y), and its line from there has the values of the row
 pub record PlaneAt (a b c : Vertex) (which : ℕ) (plane : Plane) (x y : ℤ) : Type 0 where
   pub own : number_at plane x y / 2 ^ 56 ≡ mixed_of (corners a b c) which x y
   pub line : (k j : ℕ) → j < 16 → IsTrue (is_within (corners a b c) (x +ℤ pos (k + j)) y)

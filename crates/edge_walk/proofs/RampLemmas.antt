@@ -1,11 +1,11 @@
--- Lines by what is one for all of a plane.
+-- Lines computed from the values that all lines of a plane share.
 use Rattle.std.proofs.Common.{ℕ, ◌+◌, ◌*◌, ◌/◌, ◌%◌, ◌^◌, ◌≡◌, ap, sym, ◌∙◌, arith}
 
--- one number that wraps, with 8 more in its upper half
+-- a number modulo 2^64 with 8 added to its upper half
 eight_more : (a : ℕ) → (a + 8 * 2 ^ 32) % 2 ^ 64 / 2 ^ 32 ≡ (a % 2 ^ 64 / 2 ^ 32 + 8) % 2 ^ 32
 eight_more a = omega arith
 
--- the number of the ninth cell, step by step from a plane's start, and by the line from an earlier cell of the row
+-- the number of the ninth cell is the same from the plane's start and from an earlier cell of the row
 pub ninth_is : (base across down x y from at start row ninth : ℕ) → from + at ≡ x
     → start ≡ ((base + across * (8 + 2 ^ 31) + down * 2 ^ 31) % 2 ^ 64 + 8 * 2 ^ 32) % 2 ^ 64
     → row ≡ (start + down * y) % 2 ^ 64 → ninth ≡ (row + across * x) % 2 ^ 64

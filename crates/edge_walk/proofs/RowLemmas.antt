@@ -12,7 +12,7 @@ use Rattle.edge_walk.specs.Triangle.{is_on_side, is_kept_edge, edge}
 le_ups : (x y : ℤ) → x ≤ℤ y → up x + down y ≤ up y + down x
 le_ups x y h = omega (arith, ints)
 
--- a product with a number above 0 keeps the order
+-- multiplication by a positive number preserves order
 pub mul_mono : (d x y : ℤ) → pos 0 <ℤ d → x ≤ℤ y → (x *ℤ d) ≤ℤ (y *ℤ d)
 mul_mono (pos d) x y h le = omega (arith, ints, mul-le-mul_right d (le_ups x y le))
 mul_mono (negsuc d) x y h le = absurd (omega (arith, ints))

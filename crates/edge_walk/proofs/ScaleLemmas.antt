@@ -1,4 +1,4 @@
--- Triangles along whose rows texels stand side by side.
+-- Triangles whose rows have contiguous texels.
 use Rattle.std.proofs.Common.{ℕ, ◌+◌, ◌*◌, ◌/◌, ◌<◌, ◌≡◌, ℤ, pos, ◌+ℤ◌, ◌*ℤ◌, IsTrue, unsigned_abs, sym, ap}
 use Rattle.std.proofs.Common.{◌∙◌, arith}
 use Rattle.std.proofs.lemmas.Int.{ints}
@@ -19,7 +19,7 @@ staying start area i =
     let whole : unsigned_abs (pos start +ℤ pos 0 *ℤ pos i) ≡ start = omega (arith, ints) in
     ap (λ z. z / area) whole
 
--- an attribute that rises by one
+-- an attribute that increases by 1
 pub one_more : (a b c : Vertex) (which area : ℕ) (x y step : ℤ) (i : ℕ) → IsUpright (corners a b c)
     → AreBytes which (corners a b c) → pos area ≡ doubled_area (corners a b c)
     → step ≡ step_of (corners a b c) which → step ≡ pos area → IsTrue (is_within (corners a b c) x y)
@@ -32,7 +32,7 @@ one_more a b c which area x y step i oriented_triangle bytes area_is step_is ris
     sym lane.value
     ∙ rw (rises, whole) (rising (sum_at a b c which x y) area i (omega (arith, ints, area_is, oriented_triangle.area)))
 
--- an attribute that stays
+-- an attribute that does not change
 pub the_same : (a b c : Vertex) (which area : ℕ) (x y step : ℤ) (i : ℕ) → IsUpright (corners a b c)
     → AreBytes which (corners a b c) → pos area ≡ doubled_area (corners a b c)
     → step ≡ step_of (corners a b c) which → step ≡ pos 0 → IsTrue (is_within (corners a b c) x y)

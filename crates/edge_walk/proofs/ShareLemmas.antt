@@ -1,4 +1,4 @@
--- The sum of an attribute at a cell, from that at the first vertex.
+-- The sum of an attribute at a cell, computed from that at the first vertex.
 use Rattle.std.proofs.Common.{ℕ, ◌+◌, ◌*◌, ◌^◌, ◌≡◌, ℤ, pos, ◌+ℤ◌, ◌-ℤ◌, ◌*ℤ◌, IsTrue, refl, ap, ◌∙◌, arith}
 use Rattle.std.proofs.lemmas.Int.{ints}
 use borrow.Author.Differences.{up, down}
@@ -25,7 +25,7 @@ spread : (d : ℤ) (x xa : ℕ) → d *ℤ (pos x -ℤ pos xa) ≡ (d *ℤ pos x
 spread d x xa = same (mul (at d) (sub (at (pos x)) (at (pos xa))))
     (sub (mul (at d) (at (pos x))) (mul (at d) (at (pos xa)))) (omega arith)
 
--- a weight at (x, y), m' of m, whose edge falls by d across and by e down
+-- the weight m' at (x, y), if m is the weight at (xa, ya): the edge value decreases by d across and by e down
 weight_part : (m m' xa ya x y : ℕ) (d e : ℤ) → pos m' ≡ (pos m -ℤ d *ℤ (pos x -ℤ pos xa) -ℤ e *ℤ (pos y -ℤ pos ya))
     → m' + up d * x + down d * xa + up e * y + down e * ya ≡ m + up d * xa + down d * x + up e * ya + down e * y
 weight_part m m' xa ya x y d e h = omega (arith, ints, spread d x xa, spread e y ya)
@@ -72,7 +72,7 @@ edge_apart p q x y xa ya dx dy ex ey = edge_from p q x y xa ya
     ∙ ap (λ d. edge p q xa ya -ℤ (q.y -ℤ p.y) *ℤ d -ℤ (p.x -ℤ q.x) *ℤ (y -ℤ ya)) ex
     ∙ ap (λ d. edge p q xa ya -ℤ (q.y -ℤ p.y) *ℤ dx -ℤ (p.x -ℤ q.x) *ℤ d) ey
 
--- a coordinate and what it is counted from the least one agree
+-- a coordinate counted from the least possible one has the right value
 abbrev pub IsCounted : ℤ → Type 0
 IsCounted x = pos (from_least x) ≡ (x +ℤ pos (2 ^ 31))
 

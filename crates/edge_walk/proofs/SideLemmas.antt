@@ -12,7 +12,7 @@ use Rattle.edge_walk.specs.Triangle.{is_on_side, IsNear}
 use Rattle.edge_walk.specs.Walk.{in_parts, start_value, IsBounded, IsSide}
 use Rattle.edge_walk.proofs.RowLemmas.{on_side_iff}
 
--- ---- one row further
+-- ---- one row below
 
 product_small : (a b : ℤ) → unsigned_abs a ≤ 1023 → unsigned_abs b ≤ 512 → unsigned_abs (a *ℤ b) ≤ 523776
 product_small a b g h = rw unsigned_abs-mul (mul-le (unsigned_abs a) (unsigned_abs b) 1023 512 g h)
@@ -34,7 +34,7 @@ grown : (a b d c : ℤ) → b ≡ (a +ℤ d) → b *ℤ c ≡ (a *ℤ c +ℤ d *
 grown a b d c e = rw e
     (same (mul (add (at a) (at d)) (at c)) (add (mul (at a) (at c)) (mul (at d) (at c))) (omega arith))
 
--- what wraps, at a number that does not
+-- an addition that wraps, if its result does not
 stepped : (held by raised next : ℕ) (start far step far' slack : ℤ) → pos held ≡ (start +ℤ (far +ℤ slack))
     → pos raised ≡ (step +ℤ pos (2 ^ 62)) → by ≡ (raised + (2 ^ 64 - 2 ^ 62)) % 2 ^ 64
     → next ≡ (held + by) % 2 ^ 64 → far' ≡ (far +ℤ step) → pos 0 ≤ℤ (start +ℤ (far' +ℤ slack))
@@ -48,7 +48,7 @@ pub in_reach : (p far slack : ℤ) → FitsSigned w32 p → unsigned_abs far ≤
 in_reach p far slack start small least =
     (omega (arith, ints, start, small, least), omega (arith, ints, start, small, least))
 
--- what is held of an edge where it is made
+-- the stored column of an edge when it is made
 pub record IsPlaced (start_held far_held : ℕ) (is : ℤ) : Type 0 where
   pub enough : 2 ^ 62 ≤ start_held + far_held
   pub fits : start_held + far_held < 2 ^ 64
@@ -100,7 +100,7 @@ parts_apart p x = same (add (mul (at x) (at (pos (2 ^ 30)))) (at (pos (2 ^ 62)))
     (add (add (mul (at p) (at (pos (2 ^ 30)))) (at (pos (2 ^ 62))))
     (mul (sub (at x) (at p)) (at (pos (2 ^ 30))))) (omega arith)
 
--- an edge leaves the columns of the cells on its inner side
+-- an edge admits the columns of the cells on its inner side
 pub bounded : (p q : Vertex) (x y : ℤ) (s : EdgeStepper) → IsSide p q y s → unsigned_abs (x -ℤ p.x) ≤ 1023
     → IsTrue (is_on_side p q x y) ↔ IsBounded s.bound (pos s.at) (in_parts x)
 bounded p q x y s h near =

@@ -1,4 +1,4 @@
--- Columns that an edge bounds, solved by multiplying.
+-- The columns that an edge admits, computed by multiplication.
 use Rattle.std.proofs.Common.{ℕ, ◌+◌, ◌-◌, ◌*◌, ◌^◌, ◌≤◌, ◌<◌, ◌≡◌, ℤ, pos, negsuc, ◌+ℤ◌, ◌-ℤ◌, ◌*ℤ◌, ◌≤ℤ◌, ◌<ℤ◌, ◌↔◌}
 use Rattle.std.proofs.Common.{Bool, true, false, cond, int_lt, unsigned_abs, refl, ap, ◌∙◌, arith}
 use Rattle.std.proofs.Math.Nat.{mul-le-mul_left}
@@ -15,7 +15,7 @@ use Rattle.edge_walk.proofs.RowLemmas.{mul_mono}
 abbrev slack : ℤ
 slack = negsuc (2 ^ 20 - 1)
 
--- a product p with k that a scale s makes k columns and a bit more, against w
+-- a product p, which is k columns plus a small error, compared with w at a scale s
 within : (p k w s bit : ℤ) → p ≡ (k +ℤ bit) → (p +ℤ s) ≤ℤ w → pos 2101256 ≤ℤ s → unsigned_abs bit ≤ 522753
     → k ≤ℤ (w +ℤ slack)
 within p k w s bit is h steep small = omega (arith, ints, is, h, steep, small)
@@ -86,7 +86,7 @@ module _ (rows scale : ℕ) (some : 1 ≤ rows) (most : rows ≤ 511) (enough : 
   above : pos 0 <ℤ pos scale
   above = let least = steep in omega (arith, ints, least)
 
-  -- the columns left of the one where an edge that falls has the value v at its first vertex
+  -- the columns that a falling edge admits, if it has the value v at the column of its first vertex
   falls : (k v : ℤ) → unsigned_abs k ≤ 1023 → ((pos rows *ℤ k) <ℤ v)
       ↔ ((k *ℤ pos (2 ^ 30)) ≤ℤ (v *ℤ pos scale +ℤ slack))
   falls k v near = (to, from)

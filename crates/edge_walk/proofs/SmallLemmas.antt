@@ -1,4 +1,4 @@
--- The size rule, asked of the box of three vertices.
+-- The size rule, tested on the bounding box of three vertices.
 use Rattle.std.proofs.Common.{◌≡◌, true, ◌≤◌, ◌-ℤ◌, ◌≤ℤ◌, ◌↔◌, ℤ, ℕ, pos, unsigned_abs, arith}
 use Rattle.std.proofs.lemmas.Int.{ints, clamps}
 use Rattle.std.specs.Int.Signed.{le_z}
@@ -6,7 +6,7 @@ use Rattle.px_num.specs.declared.shape.Box2.{Box2}
 use Rattle.edge_walk.specs.Extent.{bounding_box, least_of, most_of, IsSmallBox}
 use Rattle.edge_walk.specs.Triangle.{Corners, IsSmall}
 
--- two of three numbers are as far apart as the first and the last of them
+-- two of three numbers are no further apart than the least and the greatest
 near_two : (a b c : ℤ) (k : ℕ) → (most_of a b c -ℤ least_of a b c) ≤ℤ pos k → unsigned_abs (a -ℤ b) ≤ k
 near_two a b c k h = omega (arith, ints, clamps, h)
 
@@ -26,7 +26,7 @@ at_most a b e = grind (arith, ints)
 is_at_most : (a b : ℤ) → a ≤ℤ b → le_z a b ≡ true
 is_at_most a b e = grind (arith, ints)
 
--- the second of two tests, where the first one holds
+-- the second of two tests, if the first one is true
 pub small_box : (own : Box2) (across down : ℤ) → across ≡ own.x2 -ℤ own.x1 → down ≡ own.y2 -ℤ own.y1
     → le_z across (pos 1023) ≡ true → (le_z down (pos 511) ≡ true) ↔ IsSmallBox own
 small_box own across down x y wide = (

@@ -26,7 +26,7 @@ sum_small a b c which area x y inside bytes area_is =
     (attribute which c) bytes.first bytes.second bytes.third in
     omega (arith, ints, bound, w.sum, area_is)
 
--- ---- one cell further
+-- ---- some cells to the right
 
 part : (m m' j : ℕ) (d : ℤ) → pos m' ≡ (pos m -ℤ d *ℤ pos j) → m' + up d * j ≡ m + down d * j
 part m m' j d e = omega (arith, ints)
@@ -57,7 +57,7 @@ edge_further p q x y z =
     (mul (sub (at q.y) (at p.y)) (at z)))
     (omega arith)
 
--- a sum is that of a cell
+-- a sum and an area that give the attribute of a cell
 pub record IsLane (t : Corners) (which : ℕ) (x y : ℤ) (sum : ℤ) (area : ℕ) : Type 0 where
   pub low : pos 0 ≤ℤ sum
   pub high : unsigned_abs sum ≤ 255 * area

@@ -1,4 +1,4 @@
--- Columns and rows that a triangle has are near its vertices, whichever of them comes first.
+-- Columns and rows of a triangle are near its vertices, whichever of them is first.
 use Rattle.std.proofs.Common.{◌≤◌, ℤ, pos, ◌+ℤ◌, ◌-ℤ◌, ◌≤ℤ◌, ◌↔◌, Bool, true, false, cond, IsTrue, ◌&&◌, int_lt}
 use Rattle.std.proofs.Common.{unsigned_abs, inl, inr, sym, subst, arith}
 use Rattle.std.proofs.lemmas.Int.{ints, clamps}
@@ -66,7 +66,7 @@ pub reached : (t : Corners) (clip : Box2) (y : ℤ) → IsSmall (oriented t) →
 unfolding oriented
 reached t clip y small box above below = by_turn t clip y (int_lt (doubled_area t) (pos 0)) small box above below
 
--- ---- the same triangle from another vertex on
+-- ---- the same triangle, starting at another vertex
 
 by_turns : (t u : Corners) (P : Corners → Type 0) → IsTurn t u → P t → P (turned t) → P (turned (turned t)) → P u
 by_turns t u P turn one two three =

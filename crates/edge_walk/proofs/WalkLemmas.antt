@@ -1,4 +1,4 @@
--- What the edges leave of a row.
+-- The columns of a row that the edges admit.
 use Rattle.std.proofs.Common.{ℕ, ◌+◌, ◌/◌, ◌^◌, ◌≤◌, ◌<◌, ◌≡◌, ℤ, pos, ◌-ℤ◌, ◌≤ℤ◌, ◌↔◌, IsTrue, false}
 use Rattle.std.proofs.Common.{FitsSigned, MatchOption, Option, None, Some, w32, arith}
 use Rattle.std.specs.Int.{int_max, int_min}
@@ -104,7 +104,7 @@ module _ (t : Corners) (clip : Box2) (x y : ℤ) (rows : RowScan) (h : AreRows t
 back : (raised : ℕ) → pos raised ≡ raised_column (pos raised -ℤ pos (2 ^ 32))
 back raised = omega (arith, ints)
 
--- what a column that is held raised is
+-- the column that a raised number represents
 abbrev pub Lowers : ℕ → ℤ → Type 0
 Lowers raised column = (x : ℤ) → FitsSigned w32 x → pos raised ≡ raised_column x → column ≡ x
 
@@ -149,12 +149,12 @@ module _ (t : Corners) (clip : Box2) (y : ℤ) (rows : RowScan) (h : AreRows t c
   none_of empty x box = not_true (is_inside t x y)
       (λ i. let b = (plain_cells x).0 (box.0, i) in omega (arith, ints, b.0, b.1, empty))
 
--- ---- a row by itself
+-- ---- a single row
 
 abbrev pub row_of : Box2 → ℤ → Box2
 row_of clip y = record { x1 = clip.x1; y1 = y; x2 = clip.x2; y2 = y }
 
--- what is said of it holds in a box that has it
+-- the span of a single row is that of the row in a box that contains it
 module _ (t : Corners) (clip : Box2) (y : ℤ) (above : clip.y1 ≤ℤ y) (below : y ≤ℤ clip.y2) where
   own : IsBetween y y y
   own = (omega (arith, ints), omega (arith, ints))
@@ -176,7 +176,7 @@ module _ (t : Corners) (clip : Box2) (y : ℤ) (above : clip.y1 ≤ℤ y) (below
   answer_in None h = λ x box. h x (box.0, own)
   answer_in (Some span) h = span_in span.0 span.1 h
 
--- a row above the triangle or below it has no cell
+-- a row above or below the triangle has no cell
 pub none_beyond : (t : Corners) (clip : Box2) (y : ℤ) → IsDrawn t
     → (IsBetween (int_max clip.y1 (bounding_box t).y1) (int_min clip.y2 (bounding_box t).y2) y → ⊥)
     → (x : ℤ) → IsInBox clip x y → is_inside t x y ≡ false

@@ -35,7 +35,7 @@ weight_is : (p q : Vertex) (x y : ℤ) → pos 0 ≤ℤ edge p q x y → pos (we
 unfolding weight
 weight_is p q x y h = omega (arith, ints)
 
--- the weights of a cell are its edge values, and make the area together
+-- the weights of a cell are its edge values, and their sum is the doubled area
 pub record AreWeights (a b c : Vertex) (x y : ℤ) : Type 0 where
   pub first : pos (weight b c x y) ≡ edge b c x y
   pub second : pos (weight c a x y) ≡ edge c a x y

@@ -1,8 +1,8 @@
--- A doubled area by which sums of attributes are divided.
+-- A doubled area that divides sums of attributes.
 use Rattle.std.specs.Prelude.{ℕ, ◌+◌, ◌/◌, ◌^◌, ◌<◌, ◌≤◌, ◌≡◌}
 use Rattle.edge_walk.specs.declared.divisor.Divisor.{Divisor}
 
--- what a sum is multiplied by: the 56 bits below the product's quotient are its fraction
+-- the factor of a sum: the low 56 bits of the product are the fraction of the quotient
 abbrev pub reciprocal_of : ℕ → ℕ
 reciprocal_of area = 2 ^ 56 / area + 1
 

@@ -1,4 +1,4 @@
--- The box of the three corners of a triangle (psx-spx, "GPU Render Polygon Commands").
+-- The bounding box of a triangle (psx-spx, "GPU Render Polygon Commands").
 use Rattle.std.specs.Prelude.{ℤ, pos, ◌-ℤ◌, ◌≤ℤ◌}
 use Rattle.std.specs.Int.{int_min, int_max}
 use Rattle.px_num.specs.declared.shape.Box2.{Box2}

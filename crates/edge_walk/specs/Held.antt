@@ -1,4 +1,4 @@
--- What a triangle holds beside its vertices.
+-- The fields of a triangle besides its vertices.
 use Rattle.std.specs.Prelude.{Bool, ℕ, ◌≡◌, int_lt, pos, unsigned_abs}
 use Rattle.edge_walk.specs.declared.divisor.Divisor.{Divisor}
 use Rattle.edge_walk.specs.Divisor.{divisor_of}
@@ -10,7 +10,7 @@ is_turned t = int_lt (doubled_area t) (pos 0)
 abbrev pub size_of : Corners → ℕ
 size_of t = unsigned_abs (doubled_area t)
 
--- what the sums of its attributes are divided by
+-- the divisor of the sums of its attributes
 abbrev pub divisor_for : Corners → Divisor
 divisor_for t = divisor_of (size_of t)
 

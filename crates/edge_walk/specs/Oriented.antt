@@ -1,4 +1,4 @@
--- The corners of a triangle that the code holds oriented_triangle.
+-- The corners of an oriented triangle of the code.
 use Rattle.edge_walk.specs.declared.oriented.Oriented.{Oriented}
 use Rattle.edge_walk.specs.Triangle.{Corners, corners}
 

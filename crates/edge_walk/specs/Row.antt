@@ -10,11 +10,11 @@ IsBetween low high x = (low ≤ℤ x) × (x ≤ℤ high)
 abbrev pub IsInBox : Box2 → ℤ → ℤ → Type 0
 IsInBox b x y = IsBetween b.x1 b.x2 x × IsBetween b.y1 b.y2 y
 
--- the cells of row y that the triangle draws in the box are those from first to last, and there is one
+-- the cells of row y that the triangle draws in the box are those from first to last, and there is at least one
 pub record IsRowSpan (t : Corners) (y : ℤ) (clip : Box2) (first last : ℤ) : Type 0 where
   pub order : first ≤ℤ last
   pub cells : (x : ℤ) → (IsInBox clip x y × IsTrue (is_inside t x y)) ↔ IsBetween first last x
 
--- the least value that an edge has at a cell of the triangle
+-- the least edge value of a cell of the triangle
 abbrev pub least_value : Vertex → Vertex → ℤ
 least_value p q = if is_kept_edge p q then pos 0 else pos 1

@@ -14,31 +14,31 @@ use Rattle.edge_walk.specs.Extent.{bounding_box}
 use Rattle.edge_walk.specs.Row.{least_value}
 use Rattle.edge_walk.specs.Triangle.{Corners, IsDrawn, IsSmall, IsTurn, oriented}
 
--- a column in parts of 2^30, raised, so that none lies below 0
+-- a column in units of 2^-30, plus 2^62 so that it is not negative
 abbrev pub in_parts : ℤ → ℤ
 in_parts x = x *ℤ pos (2 ^ 30) +ℤ pos (2 ^ 62)
 
--- a whole column, raised alike
+-- the same in whole columns: plus 2^32
 abbrev pub raised_column : ℤ → ℤ
 raised_column x = x +ℤ pos (2 ^ 32)
 
--- a column is one that an edge leaves which stands at `at`, all in parts
+-- an edge at position `at` admits column x, both in units of 2^-30
 abbrev pub IsBounded : Bound → ℤ → ℤ → Type 0
 IsBounded AtMost at x = x ≤ℤ at
 IsBounded Above at x = at <ℤ x
 
--- a column lies between two ends, all in parts
+-- a column is above the low end and at most the high end, in units of 2^-30
 abbrev pub IsWithin : Ends → ℤ → Type 0
 IsWithin ends x = IsBounded Above (pos ends.low) x × IsBounded AtMost (pos ends.high) x
 
--- the parts of a column over so many rows, rounded up
+-- 2^30 divided by a number of rows, rounded up
 pub record ArePartsOver (rows parts : ℕ) : Type 0 where
   pub enough : 2 ^ 30 ≤ parts * rows
   pub close : parts * rows < 2 ^ 30 + rows
   pub most : parts ≤ 2 ^ 30
 
--- an edge leaves the columns that its slope says: of those up to 1023 away from its first vertex, at whose column its
--- value is v, the ones where its value is the least one or more
+-- a slope describes the columns that the edge admits: v is the edge value in a row at the column of its first vertex
+-- p. A column k columns from p, at most 1023, is admitted exactly if the edge value there is at least the least value
 pub record IsSlope (p q : Vertex) (slope : Slope) : Type 0 where
   pub solves : (k v : ℤ) → unsigned_abs k ≤ 1023
       → (least_value p q ≤ℤ (v -ℤ (q.y -ℤ p.y) *ℤ k)) ↔ IsBounded slope.bound (v *ℤ slope.scale +ℤ slope.slack)
@@ -61,13 +61,13 @@ pub record IsSide (p q : Vertex) (y : ℤ) (s : EdgeStepper) : Type 0 where
   pub by : s.by ≡ (raised + (2 ^ 64 - 2 ^ 62)) % 2 ^ 64
   pub step : pos raised ≡ ((q.x -ℤ p.x) *ℤ slope.scale +ℤ pos (2 ^ 62))
 
--- a box whose rows are rows of the triangle's own box
+-- a box all of whose rows are rows of the triangle's bounding box
 pub record HasRows (t : Corners) (clip : Box2) : Type 0 where
   pub top : (bounding_box t).y1 ≤ℤ clip.y1
   pub some : clip.y1 ≤ℤ clip.y2
   pub bottom : clip.y2 ≤ℤ (bounding_box t).y2
 
--- a walk over the rows of a triangle in a box stands at row y, or below the box
+-- a scan over the rows of a triangle in a box is at row y, or just below the box
 pub record AreRows (t : Corners) (clip : Box2) (y : ℤ) (rows : RowScan) : Type 0 where
   pub small : IsSmall (oriented t)
   pub around : Corners

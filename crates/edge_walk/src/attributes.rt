@@ -1,4 +1,4 @@
-// Colours and texture coordinates of a triangle's cells.
+// Colours and texture coordinates of the cells of a triangle.
 use crate::divisor::Divisor;
 use crate::line::keep_first;
 use crate::plane::Plane;
@@ -14,7 +14,8 @@ impl Tri {
     ghost use Rattle.edge_walk.specs.Plane.{IsPlane};
     ghost use Rattle.edge_walk.specs.Triangle.{is_inside};
 
-    /// `attr_at` of the `n` cells inside from (x, y) to the right, and 0 in the lanes from `n` on.
+    /// Returns [`attr_at`](Tri::attr_at) of the `n` cells from (`x`, `y`) to the right in the first lanes, and 0 in
+    /// the others. `which` is at most 4 and `n` is 1 to 16. All `n` cells must be inside.
     pub fn attr_lanes(&self, which: u8, x: i32, y: i32, n: u8) -> u16x16
         requires which { which ≤ 4 }
         requires some { 1 ≤ n }
@@ -29,14 +30,15 @@ impl Tri {
         keep_first(plane.row_line(x, y).lanes(0), n)
     }
 
-    /// What the sums of its attributes are divided by. It takes a division.
+    /// Returns the divisor of this triangle's attribute sums, its doubled area. Computing it takes one division.
     pub fn area_divisor(&self) -> Divisor
         ensures { result ≡ divisor_for self.now }
     {
         Divisor::new(self.area)
     }
 
-    /// An attribute over the whole triangle.
+    /// Returns attribute `which` (0 to 4: red, green, blue, u, v) over the whole triangle. `divisor` must be
+    /// [`area_divisor`](Tri::area_divisor) of this triangle.
     #[inline(always)]
     pub fn plane(&self, which: u8, divisor: &Divisor) -> Plane
         requires which { which ≤ 4 }
@@ -47,7 +49,7 @@ impl Tri {
         Plane::of(&t, which, divisor)
     }
 
-    /// The colour of all cells inside, where the three vertices have the same.
+    /// Returns the 24-bit colour of all cells inside if the three vertices have the same colour, else `None`.
     pub fn one_color(&self) -> Option<u32>
         ensures low { IfSome result (λ color. color < 2 ^ 24) }
         ensures value { IfSome result (λ color. (x y : ℤ) → IsTrue (is_inside self.now x y)
@@ -62,7 +64,7 @@ impl Tri {
         }
     }
 
-    /// Whether u is one more from cell to cell of each row, and v stays the same.
+    /// Returns true only if, from each cell inside to the next of its row, u increases by 1 and v does not change.
     pub fn is_unscaled(&self) -> bool
         ensures { IsTrue result → IsUnscaled self.now }
     {

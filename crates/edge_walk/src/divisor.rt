@@ -1,10 +1,11 @@
-// Exact quotients by an area, without a division for each.
+// Exact division by an area through multiplication with its reciprocal.
 ghost use Rattle.std.specs.Prelude.{◌≡◌, ◌*◌, ◌/◌, ◌<◌, ◌≤◌};
 
-/// A doubled area, and 2^56 over it, rounded up past the quotient.
+/// A doubled area and its reciprocal: `2^56 / area` rounded down, plus 1.
 ///
-/// The sum of an attribute is at most 255 times the area. The product of such a sum and the reciprocal is less than
-/// 2^56 over the area above 2^56 times the exact quotient, so it has the same whole part.
+/// The sum of an attribute at a cell is that of its values at the three vertices, each times the edge value opposite
+/// the vertex. It is at most 255 times the area. The product of such a sum and the reciprocal exceeds 2^56 times the
+/// exact quotient by less than 2^56 / area. So the top 8 bits of the product are the quotient rounded down.
 #[derive(Clone, Copy)]
 pub struct Divisor {
     area: u32,
@@ -24,7 +25,7 @@ impl Divisor {
         }
     }
 
-    // The area times a byte, times the reciprocal.
+    // Returns the area times `byte` times the reciprocal.
     pub(crate) fn times(&self, byte: u8) -> u64
         requires { IsDivisor self.now }
         ensures { result ≡ self.now.area * byte * self.now.reciprocal }
@@ -32,7 +33,7 @@ impl Divisor {
         self.area as u64 * byte as u64 * self.reciprocal
     }
 
-    // The sum over the area, rounded down.
+    // Returns `sum / area`, rounded down. `sum` is at most 255 times the area.
     pub(crate) fn quotient(&self, sum: u32) -> u8
         requires divisor { IsDivisor self.now }
         requires sum { sum ≤ 255 * self.now.area }

@@ -1,4 +1,4 @@
-// Edges: the side of a cell, and the size rule.
+// Edges: on which side of an edge a cell is, and the size rule.
 ghost use Rattle.std.specs.Prelude.{◌≡◌, ◌&&◌, ◌≤◌, ◌<◌, ◌^◌, IsTrue, ◌↔◌, unsigned_abs, ◌-ℤ◌, ◌*ℤ◌};
 ghost use Rattle.edge_walk.specs.Extent.{IsSmallBox};
 ghost use Rattle.edge_walk.specs.Triangle.{edge, IsNear, IsSmall, corners, doubled_area, is_on_side, is_kept_edge};
@@ -12,7 +12,8 @@ fn is_small_box(own: &Box2) -> bool
     difference(own.x2, own.x1) <= 1023 && difference(own.y2, own.y1) <= 511
 }
 
-// The three vertices lie near each other where the first and the last of them do, in X and in Y.
+// Returns whether the size rule admits the three vertices. Each two are near enough if the box of all three is small
+// enough.
 #[tactic(auto, using(crate::proofs::SmallLemmas::small_is))]
 pub(crate) fn is_small(a: &Vertex, b: &Vertex, c: &Vertex) -> bool
     ensures { IsTrue result ↔ IsSmall (corners a.now b.now c.now) }
@@ -58,7 +59,8 @@ pub(crate) fn doubled_area(a: &Vertex, b: &Vertex, c: &Vertex) -> i64
     edge(a, b, c.x, c.y)
 }
 
-// Whether the cells on an edge belong to the triangle.
+// Returns whether cells exactly on the edge from `p` to `q` belong to the triangle: the edge goes up, or level to the
+// right.
 pub(crate) fn is_kept_edge(p: &Vertex, q: &Vertex) -> bool
     ensures { result ≡ is_kept_edge p.now q.now }
 {

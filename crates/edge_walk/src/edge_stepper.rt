@@ -1,4 +1,4 @@
-// An edge from row to row.
+// Stepping along an edge from row to row.
 ghost use Rattle.std.specs.Prelude.{◌≡◌, ◌^◌, ◌≤◌, ◌<◌, ◌↔◌};
 ghost use Rattle.std.specs.Prelude.{ℤ, pos, ◌+ℤ◌, ◌-ℤ◌, ◌*ℤ◌, unsigned_abs};
 ghost use Rattle.std.specs.Int.{int_max, int_min};
@@ -10,27 +10,27 @@ use crate::edge::{difference, product};
 use crate::slope::{Bound, Slope};
 use px_num::{Box2, Vertex};
 
-/// An edge in one row, and how it goes to the next.
+/// An edge in one row, and the step to the next row.
 #[derive(Clone, Copy)]
 pub(crate) struct EdgeStepper {
     bound: Bound,
-    // its own column, in parts of a column
+    // the edge's column in this row, as a fixed-point number (see `in_parts`)
     at: u64,
-    // by how much that grows from row to row, and wraps
+    // the increment of `at` from row to row; the addition wraps
     by: u64,
 }
 
-/// Where the columns of a row end, in parts of a column: they are above `low` and at most `high`.
+/// The limits of the columns of a row, as fixed-point numbers: columns are above `low` and at most `high`.
 #[derive(Clone, Copy)]
 pub(crate) struct Ends {
     pub(crate) low: u64,
     pub(crate) high: u64,
 }
 
-// What is held is so much greater than it is, so that nothing lies below 0.
+// Added to every stored column, so that none is negative.
 const RAISE: i64 = 1 << 62;
 
-/// A column in parts of a column.
+/// Returns column `x` as a fixed-point number: 2^30 times `x`, plus 2^62 so that it is not negative.
 #[inline(always)]
 pub(crate) fn in_parts(x: i32) -> u64
     ensures { pos result ≡ in_parts x }
@@ -39,7 +39,7 @@ pub(crate) fn in_parts(x: i32) -> u64
 }
 
 impl Ends {
-    /// The columns that two boxes have in common.
+    /// Returns the columns that two boxes have in common.
     #[inline(always)]
     pub(crate) fn of(clip: &Box2, own: &Box2) -> Ends
         ensures low { pos result.low ≡ (in_parts (int_max clip.now.x1 own.now.x1) -ℤ pos 1) }
@@ -52,7 +52,7 @@ impl Ends {
     }
 }
 
-// How far a value moves the column of an edge, raised.
+// Returns `value * scale + slack` plus `RAISE`.
 #[inline(always)]
 fn raised(value: i64, scale: i64, slack: i64) -> u64
     requires value { unsigned_abs value < 2 ^ 19 }
@@ -64,7 +64,7 @@ fn raised(value: i64, scale: i64, slack: i64) -> u64
 }
 
 impl EdgeStepper {
-    /// The edge from p to q, whose slope is given, in row y.
+    /// Returns the edge from `p` to `q` in row `y`, with its slope. `y` is at most 512 rows from `p`.
     #[inline(always)]
     pub(crate) fn at(slope: &Slope, p: &Vertex, q: &Vertex, y: i32) -> EdgeStepper
         requires slope { IsSlope p.now q.now slope.now }
@@ -83,7 +83,7 @@ impl EdgeStepper {
         }
     }
 
-    /// On to the next row.
+    /// Moves to the next row.
     #[inline(always)]
     pub(crate) fn step(&mut self)
         ensures { (p q : Vertex) (y : ℤ) → IsNear p q → unsigned_abs ((y +ℤ pos 1) -ℤ p.y) ≤ 512
@@ -92,7 +92,7 @@ impl EdgeStepper {
         self.at = self.at.wrapping_add(self.by);
     }
 
-    /// The part of the columns that the edge leaves.
+    /// Returns the columns of `ends` that are on the inner side of the edge.
     #[inline(always)]
     pub(crate) fn narrowed(&self, ends: Ends) -> Ends
         ensures { (x : ℤ) → (IsWithin ends x × IsBounded self.now.bound (pos self.now.at) x) ↔ IsWithin result x }

@@ -1,4 +1,4 @@
-// The box of three vertices.
+// The bounding box of three vertices.
 ghost use Rattle.std.specs.Prelude.{◌≡◌};
 ghost use Rattle.edge_walk.specs.Extent.{bounding_box, least_of, most_of};
 ghost use Rattle.edge_walk.specs.Triangle.{corners};

@@ -1,8 +1,8 @@
-//! Triangles by rows: which cells a triangle draws, and the colour and texture coordinates of each.
+//! Triangles: which cells a triangle draws in each row, and the colour and texture coordinates of each cell.
 //!
-//! Vertices have the drawing offset added. A cell is inside where it lies on the inner side of all three
-//! edges. One that lies on an edge is inside where the edge, with the triangle to its right, goes up, or
-//! level to the right. So two triangles with a common edge draw none of its cells twice.
+//! The coordinates of vertices include the drawing offset. A cell is inside if it is on the inner side of all three
+//! edges. Traverse each edge with the triangle to its right: cells exactly on the edge count as on its inner side
+//! only if it goes up, or level to the right. So two triangles with a common edge draw none of its cells twice.
 #![tactic(auto)]
 
 mod attributes;

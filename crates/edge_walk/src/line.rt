@@ -6,15 +6,15 @@ ghost use Rattle.edge_walk.specs.Line.{AreFirst, wrapped, scaled, line_value};
 use crate::ramp::{around, ramp_of};
 use std::simd::prelude::*;
 
-/// An attribute along a row of cells. It is the top byte of a number of 64 bits that grows by the same step from
-/// cell to cell, and wraps.
+/// An attribute along a row of cells. It is the top byte of a 64-bit number that changes by the same step from cell
+/// to cell. The addition wraps.
 #[derive(Clone, Copy)]
 pub struct RowLine {
     pub(crate) first: u64,
     pub(crate) step: u64,
 }
 
-// A size, or what it is when it is counted down from 2^64.
+// Returns `size`, or 2^64 minus `size` (as a negative number wraps) if `falls`.
 #[inline(always)]
 fn wrapped(falls: bool, size: u64) -> u64
     ensures { result ≡ wrapped falls size }
@@ -22,7 +22,7 @@ fn wrapped(falls: bool, size: u64) -> u64
     if falls { 0u64.wrapping_sub(size) } else { size }
 }
 
-// A step over the area.
+// Returns `step` times the reciprocal `by` modulo 2^64.
 #[inline(always)]
 #[tactic(auto, unfolding(crate::specs::Line::scaled))]
 pub(crate) fn scaled(step: i64, by: u64) -> u64
@@ -32,7 +32,7 @@ pub(crate) fn scaled(step: i64, by: u64) -> u64
 }
 
 impl RowLine {
-    // The number i cells further.
+    // Returns the 64-bit number of the cell `i` columns to the right.
     #[inline(always)]
     fn sum(&self, i: u32) -> u64
         ensures { result ≡ (self.now.first + self.now.step * i) % 2 ^ 64 }
@@ -40,9 +40,9 @@ impl RowLine {
         self.first.wrapping_add(self.step.wrapping_mul(i as u64))
     }
 
-    /// The attribute at sixteen cells, the first of them `at` cells from the line's own.
+    /// Returns the attribute at the sixteen cells whose first is `at` columns to the right of the line's first cell.
     ///
-    /// They are reckoned in 32 bits from the one in the middle.
+    /// The values are computed in 32 bits from the number of the ninth cell.
     #[inline(always)]
     #[tactic(auto, unfolding(crate::specs::Line::line_value))]
     pub fn lanes(&self, at: u16) -> u16x16
@@ -55,7 +55,7 @@ impl RowLine {
     }
 }
 
-/// The products, which wrap.
+/// Returns the product of each lane and `b` modulo 2^32.
 #[inline(always)]
 pub(crate) fn times(a: u32x16, b: u32) -> u32x16
     requires { length a ≡ 16 }
@@ -65,7 +65,7 @@ pub(crate) fn times(a: u32x16, b: u32) -> u32x16
     a * u32x16::splat(b)
 }
 
-/// The sums, which wrap.
+/// Returns the sum of each lane and `b` modulo 2^32.
 #[inline(always)]
 pub(crate) fn plus(a: u32x16, b: u32) -> u32x16
     requires { length a ≡ 16 }
@@ -94,7 +94,7 @@ fn narrow(a: u32x16) -> u16x16
     a.cast::<u16>()
 }
 
-/// The top bytes of sixteen numbers.
+/// Returns the top byte of each 32-bit lane.
 #[inline(always)]
 pub(crate) fn top_bytes(a: u32x16) -> u16x16
     requires long { length a ≡ 16 }
@@ -106,7 +106,7 @@ pub(crate) fn top_bytes(a: u32x16) -> u16x16
     narrow(high8(a))
 }
 
-// The first n of sixteen numbers, and then zeros.
+// Returns the first `n` lanes, and 0 in the others.
 pub(crate) fn keep_first(lanes: u16x16, n: u8) -> u16x16
     requires few { n ≤ 16 }
     requires long { length lanes ≡ 16 }

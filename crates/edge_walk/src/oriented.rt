@@ -1,4 +1,4 @@
-// Triangles whose vertices go around them in one order.
+// Triangles with a fixed orientation of their vertices.
 ghost use Rattle.edge_walk.specs.Triangle.{corners, IsUpright};
 
 use px_num::Vertex;
@@ -17,8 +17,9 @@ impl Oriented {
     ghost use Rattle.edge_walk.specs.Triangle.{IsTurn};
     ghost use Rattle.edge_walk.specs.Oriented.{corners_of};
 
-    /// This triangle from another vertex on, so that its second one is the first of the highest: the edge to it rises,
-    /// and that from it does not. So a row chooses between the two ways to bound columns at one edge alone.
+    /// Returns this triangle with its vertices rotated so that the second is the topmost; of two topmost ones, the
+    /// one that comes first around the triangle. The edge to it rises and the edge from it does not. So only the
+    /// third edge needs a choice between the two kinds of bound.
     #[inline(always)]
     pub(crate) fn rotated_to_top(&self) -> Oriented
         ensures turn { IsTurn (corners_of self.now) (corners_of result) }

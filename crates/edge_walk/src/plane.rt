@@ -12,10 +12,10 @@ use crate::line::{RowLine, scaled};
 use crate::oriented::Oriented;
 use crate::steps::attribute;
 
-/// An attribute over a triangle, of whose rows it gives the lines.
+/// An attribute over a triangle, as a linear function of the cell.
 ///
-/// The sum of an attribute is linear in X and Y, and so is its product with the reciprocal of the area. It is held in
-/// numbers of 64 bits that wrap, since those of the cells inside do not.
+/// The sum of an attribute is linear in X and Y, and so is its product with the reciprocal of the doubled area. The
+/// product is computed modulo 2^64. At cells inside it is exact, because there it is less than 2^64.
 #[derive(Clone, Copy)]
 pub struct Plane {
     base: u64,
@@ -30,7 +30,7 @@ fn from_least(x: i32) -> u64
     (x as i64 + 0x8000_0000) as u64
 }
 
-/// A number after so many steps, which wrap.
+/// Returns `from + step * steps` modulo 2^64.
 #[inline(always)]
 pub(crate) fn after_steps(from: u64, step: u64, steps: u64) -> u64
     ensures { result ≡ (from + step * steps) % 2 ^ 64 }
@@ -38,7 +38,7 @@ pub(crate) fn after_steps(from: u64, step: u64, steps: u64) -> u64
     from.wrapping_add(step.wrapping_mul(steps))
 }
 
-// The number that is another one after so many steps.
+// Returns the number that is `to` after `steps` steps, modulo 2^64.
 #[inline(always)]
 fn before_steps(to: u64, step: u64, steps: u64) -> u64
     ensures { (result + step * steps) % 2 ^ 64 ≡ to }
@@ -47,7 +47,8 @@ fn before_steps(to: u64, step: u64, steps: u64) -> u64
 }
 
 impl Plane {
-    // The plane whose sum at the first vertex is that vertex's share of the area.
+    // Returns the plane of attribute `which` of an oriented triangle. It is fixed by its steps and its value at the
+    // first vertex.
     #[inline(always)]
     pub(crate) fn of(t: &Oriented, which: u8, divisor: &Divisor) -> Plane
         requires which { which ≤ 4 }
@@ -65,7 +66,8 @@ impl Plane {
         }
     }
 
-    /// The line from (x, y) to the right.
+    /// Returns the attribute along row `y` from column `x` to the right. If (`x`, `y`) is inside, its values at cells
+    /// inside are those of the triangle.
     #[inline(always)]
     pub fn row_line(&self, x: i32, y: i32) -> RowLine
         ensures { (t : Corners) (which : ℕ)
@@ -74,7 +76,7 @@ impl Plane {
         self.line_at(x, y)
     }
 
-    /// The attribute at a cell inside.
+    /// Returns the attribute at the cell (`x`, `y`), which must be inside.
     #[inline(always)]
     pub fn value_at(&self, x: i32, y: i32) -> u8
         ensures { (t : Corners) (which : ℕ)

@@ -1,4 +1,4 @@
-// An attribute over a triangle, with what is one for all its lines.
+// An attribute over a triangle, with the values that all its rows share.
 ghost use Rattle.std.specs.Prelude.{◌≡◌, ◌*◌};
 ghost use Rattle.edge_walk.specs.Line.{IsRamp};
 ghost use Rattle.edge_walk.specs.Ramp.{start_of};
@@ -7,19 +7,19 @@ use crate::plane::{Plane, after_steps};
 use crate::ramp::{Ramp, around, ramp_of};
 use std::simd::prelude::*;
 
-/// An attribute over a triangle as a [`Plane`] has it, with what is one for all its lines: a line of many rows costs
-/// less by it.
+/// A [`Plane`] with the values that all its rows share, so that each row takes less time.
 #[derive(Clone, Copy)]
 pub struct PlaneRamp {
     plane: Plane,
-    // the number of the ninth of sixteen cells, for those of which the first is (0, 0)
+    // the number of the ninth cell, if the first of the sixteen is (0, 0)
     start: u64,
     ramp: Ramp,
     ghost start_is: { start ≡ start_of plane },
     ghost is_ramp: { IsRamp plane.across ramp },
 }
 
-// The number of the ninth of sixteen cells, for those of which the first is (0, 0).
+// Returns the number of the ninth cell if the first of the sixteen is (0, 0). 8 is added to its upper half, as
+// `RowLine::lanes` does.
 #[inline(always)]
 fn start_of(plane: &Plane) -> u64
     ensures { result ≡ start_of plane.now }
@@ -34,7 +34,7 @@ impl PlaneRamp {
     ghost use Rattle.edge_walk.specs.PlaneRamp.{AreAttributes};
     ghost use Rattle.edge_walk.specs.Triangle.{Corners};
 
-    /// This plane with its ramp.
+    /// Returns `plane` with its ramp.
     #[inline(always)]
     pub fn of(plane: &Plane) -> PlaneRamp
         ensures { result.plane ≡ plane.now }
@@ -46,7 +46,8 @@ impl PlaneRamp {
         }
     }
 
-    /// The attribute at sixteen cells from (x, y) to the right.
+    /// Returns the attribute at the sixteen cells from (`x`, `y`) to the right. A lane has the triangle's attribute
+    /// if its cell is inside and the row has a cell inside in column `x` or before.
     #[inline(always)]
     pub fn lanes(&self, x: u16, y: u16) -> u16x16
         ensures long { length result ≡ 16 }

@@ -1,4 +1,4 @@
-// How an attribute grows along a row, reckoned once for many rows.
+// The increments of an attribute along a row, computed once for many rows.
 ghost use Rattle.std.specs.Prelude.{◌≡◌, ◌+◌, ◌-◌, ◌*◌, ◌%◌, ◌^◌, ◌≤◌, ℕ, length, slice_index};
 ghost use Rattle.px_num.specs.Lanes.{EachLane};
 ghost use Rattle.edge_walk.specs.Line.{IsRamp, short_step, short_value};
@@ -6,7 +6,7 @@ ghost use Rattle.edge_walk.specs.Line.{IsRamp, short_step, short_value};
 use crate::line::{plus, times, top_bytes};
 use std::simd::prelude::*;
 
-/// How much the numbers of sixteen cells in 32 bits have more than that in the middle, for all lines of one step.
+/// The 32-bit increments from the ninth of sixteen cells to each of them, for all lines with the same step.
 #[derive(Clone, Copy)]
 pub(crate) struct Ramp {
     lanes: u32x16,
@@ -31,7 +31,7 @@ const FROM_MIDDLE: [u32; 16] = [
     7,
 ];
 
-// The numbers of sixteen lanes less 8, which wrap.
+// Returns the lane number minus 8 modulo 2^32 in each lane.
 #[inline(always)]
 fn from_middle() -> u32x16
     ensures long { length result ≡ 16 }
@@ -40,7 +40,7 @@ fn from_middle() -> u32x16
     u32x16::from_array(FROM_MIDDLE)
 }
 
-// A step in 32 bits, rounded.
+// Returns the upper 32 bits of `step`, rounded to the nearest.
 #[inline(always)]
 fn short_step(step: u64) -> u32
     ensures { result ≡ short_step step }
@@ -48,7 +48,7 @@ fn short_step(step: u64) -> u32
     (step.wrapping_add(0x8000_0000) >> 32) as u32
 }
 
-/// The ramp of lines of this step.
+/// Returns the ramp of lines with this step.
 #[inline(always)]
 pub(crate) fn ramp_of(step: u64) -> Ramp
     ensures { IsRamp step result }
@@ -58,7 +58,7 @@ pub(crate) fn ramp_of(step: u64) -> Ramp
     }
 }
 
-/// The attribute at sixteen cells by the number of the ninth in 32 bits.
+/// Returns the attribute at sixteen cells. `ninth` is the upper half of the number of the ninth cell.
 #[inline(always)]
 pub(crate) fn around(ninth: u32, ramp: &Ramp) -> u16x16
     requires { length ramp.now.lanes ≡ 16 }

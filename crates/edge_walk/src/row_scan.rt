@@ -9,24 +9,24 @@ ghost use Rattle.edge_walk.specs.Walk.{AreRows, IsBounded, IsWithin, raised_colu
 
 use crate::edge_stepper::{EdgeStepper, Ends};
 
-/// A walk over the rows of a triangle in a box.
+/// A scan over the rows of a triangle within a box.
 #[derive(Clone, Copy)]
 pub struct RowScan {
-    // the columns that the box and the triangle's own have in common
+    // the columns that the box and the bounding box have in common
     pub(crate) ends: Ends,
     pub(crate) first: EdgeStepper,
     pub(crate) second: EdgeStepper,
     pub(crate) third: EdgeStepper,
 }
 
-// Columns of a row, raised.
+// The first and the last column of a row, plus 2^32.
 #[derive(Clone, Copy)]
 struct Columns {
     low: u64,
     high: u64,
 }
 
-// A column that is held raised.
+// Returns the column whose value plus 2^32 is `raised`.
 #[inline(always)]
 fn column(raised: u64) -> i32
     ensures { (x : ℤ) → FitsSigned w32 x → pos raised ≡ raised_column x → result ≡ x }
@@ -35,7 +35,7 @@ fn column(raised: u64) -> i32
 }
 
 impl RowScan {
-    // What the edges leave of the columns.
+    // Returns the columns that are on the inner side of all three edges.
     #[inline(always)]
     fn left(&self) -> Ends
         ensures { (x : ℤ) → (IsWithin self.now.ends x
@@ -48,7 +48,7 @@ impl RowScan {
         self.third.narrowed(second)
     }
 
-    // The columns of the row that the triangle has in the box.
+    // Returns the columns of the row that are in the triangle and in the box. `low` exceeds `high` if there is none.
     #[inline(always)]
     fn columns(&self) -> Columns
         ensures { (t : Corners) (clip : Box2) (x y : ℤ) → AreRows t clip y self.now
@@ -62,7 +62,7 @@ impl RowScan {
         }
     }
 
-    // On to the next row.
+    // Moves to the next row.
     #[inline(always)]
     fn step(&mut self)
         ensures { (t : Corners) (clip : Box2) (y : ℤ)
@@ -73,7 +73,8 @@ impl RowScan {
         self.third.step();
     }
 
-    /// What `Tri::row_span` says of the row, and on to the next one.
+    /// Returns what `Tri::row_span` returns for this row and the box, and moves to the next row. After the last row
+    /// of the box, the result has no meaning.
     #[inline(always)]
     pub fn next(&mut self) -> Option<(i32, i32)>
         ensures span { (t : Corners) (clip : Box2) (y : ℤ) → AreRows t clip y self.old → y ≤ℤ clip.y2
@@ -84,7 +85,8 @@ impl RowScan {
     {
         let columns = self.columns();
         self.step();
-        // The span is made first, and taken back in a row without cells: a choice between them costs each row more.
+        // The span is made first, and dropped if the row has no cell. A branch between the two cases would cost each
+        // row more.
         let mut found = Some((column(columns.low), column(columns.high)));
         if columns.high < columns.low {
             found = None;

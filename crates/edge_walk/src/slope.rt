@@ -1,4 +1,4 @@
-// How the columns that an edge bounds go from row to row.
+// How the columns that an edge bounds change from row to row.
 ghost use Rattle.std.specs.Prelude.{◌≡◌, ◌≤◌, pos, ◌-ℤ◌, int_lt, ◌≤ℤ◌, ◌<ℤ◌};
 ghost use Rattle.std.specs.Prelude.{if◌then◌else◌};
 ghost use Rattle.px_num.specs.declared.shape.Vertex.{Vertex};
@@ -8,17 +8,17 @@ ghost use Rattle.edge_walk.specs.Walk.{ArePartsOver, IsSlope};
 use crate::edge::difference;
 use px_num::Vertex;
 
-/// How an edge bounds the columns of a row.
+/// The direction in which an edge bounds the columns of a row.
 #[derive(Clone, Copy)]
 pub(crate) enum Bound {
-    /// They are at most its own.
+    /// Columns are at most the edge's column.
     AtMost,
-    /// They are above its own.
+    /// Columns are above the edge's column.
     Above,
 }
 
-/// How an edge bounds the columns of a row, and where: its own column is as far from that of its first vertex as the
-/// edge's value there times `scale`, and `slack` more. That is counted in parts of 2^30 of a column.
+/// How an edge bounds the columns of a row. The edge's column, relative to that of its first vertex, is `v * scale +
+/// slack` in units of 2^-30 of a column. `v` is the edge value in that row at the first vertex's column.
 #[derive(Clone, Copy)]
 pub(crate) struct Slope {
     pub(crate) bound: Bound,
@@ -26,11 +26,12 @@ pub(crate) struct Slope {
     pub(crate) slack: i64,
 }
 
-// A cell on an edge stands less than half of this beside the edge's own column, and the next one whose edge value
-// differs more than twice as far.
+// The rounding of `scale` moves the edge's column by less than half of this. An edge value that differs by 1 moves it
+// by more than twice this. So cells on a rising edge are admitted, those on a falling edge are not, and rounding
+// changes no other cell.
 const SLACK: i64 = -0x10_0000;
 
-// The parts of a column over so many rows, rounded up.
+// Returns 2^30 / `rows`, rounded up. `rows` is 1 to 511.
 #[inline(always)]
 fn parts_over(rows: u32) -> u32
     requires some { 1 ≤ rows }
@@ -40,7 +41,7 @@ fn parts_over(rows: u32) -> u32
     0x3fff_ffff / rows + 1
 }
 
-// The slope of an edge that rises, or falls, by so many rows.
+// Returns the slope of an edge that rises, or falls, by `rows` rows, 1 to 511.
 #[inline(always)]
 fn steep(rises: bool, rows: u32) -> Slope
     requires some { 1 ≤ rows }
@@ -63,7 +64,8 @@ fn steep(rises: bool, rows: u32) -> Slope
     }
 }
 
-// The slope of a level edge, which may go to the right: in a row it leaves all columns, or none.
+// Returns the slope of a level edge that goes to the right or to the left. In a row it admits all columns of the
+// triangle, or none.
 #[inline(always)]
 fn level(right: bool) -> Slope
     ensures { (p q : Vertex) → q.y ≡ p.y → int_lt p.x q.x ≡ right → IsSlope p q result }
@@ -79,7 +81,7 @@ fn level(right: bool) -> Slope
     }
 }
 
-/// The slope of an edge that rises from p to q.
+/// Returns the slope of an edge that rises from `p` to `q`.
 #[inline(always)]
 pub(crate) fn rising(p: &Vertex, q: &Vertex) -> Slope
     requires near { IsNear p.now q.now }
@@ -89,7 +91,7 @@ pub(crate) fn rising(p: &Vertex, q: &Vertex) -> Slope
     steep(true, difference(p.y, q.y) as u32)
 }
 
-/// The slope of an edge that falls from p to q, or is level.
+/// Returns the slope of an edge that falls from `p` to `q`, or is level.
 #[inline(always)]
 pub(crate) fn falling(p: &Vertex, q: &Vertex) -> Slope
     requires near { IsNear p.now q.now }
@@ -104,7 +106,7 @@ pub(crate) fn falling(p: &Vertex, q: &Vertex) -> Slope
     }
 }
 
-/// The slope of the edge from p to q.
+/// Returns the slope of the edge from `p` to `q`.
 #[inline(always)]
 pub(crate) fn slope_of(p: &Vertex, q: &Vertex) -> Slope
     requires { IsNear p.now q.now }

@@ -1,4 +1,4 @@
-// Attributes of vertices, and how much the sum of one grows from cell to cell.
+// Attributes of vertices, and the increments of an attribute's sum from cell to cell.
 ghost use Rattle.std.specs.Prelude.{◌≡◌, ◌≤◌, pos, ◌-ℤ◌, ◌*ℤ◌, unsigned_abs};
 ghost use Rattle.edge_walk.specs.Attribute.{AreBytes, attribute, step_of, row_step_of};
 ghost use Rattle.edge_walk.specs.Oriented.{corners_of};
@@ -28,7 +28,7 @@ fn slope(a: u8, fall: i64) -> i64
     a as i64 * fall
 }
 
-// How much an attribute falls from one cell to the next, for each vertex.
+// The decrease of the sum from one cell to the next, for each vertex.
 #[derive(Drop)]
 struct Slopes {
     first: i64,
@@ -47,7 +47,7 @@ fn opposite_sum(s: &Slopes) -> i64
 }
 
 impl Oriented {
-    // How much the sum of an attribute grows from one cell of a row to the next.
+    // Returns the increment of the sum of attribute `which` from one cell of a row to the next.
     pub(crate) fn step_across(&self, which: u8) -> i64
         requires { which ≤ 4 }
         ensures step { result ≡ step_of (corners_of self.now) which }
@@ -60,7 +60,7 @@ impl Oriented {
         })
     }
 
-    // How much it grows from one row to the next.
+    // Returns the increment of the sum of attribute `which` from one row to the next.
     pub(crate) fn step_down(&self, which: u8) -> i64
         requires { which ≤ 4 }
         ensures { result ≡ row_step_of (corners_of self.now) which }

@@ -10,16 +10,16 @@ use crate::weights::mixed;
 use px_num::{Box2, Vertex};
 use std::marker::Model;
 
-/// A triangle that the size rule admits and whose doubled area is not 0. Contracts see it as its three
-/// vertices, in the order in which `new` was given them.
+/// A triangle that the size rule admits and whose doubled area is not 0. In contracts it is its three vertices, in
+/// the order of the arguments of `new`.
 #[derive(Clone, Copy)]
 pub struct Tri {
     a: Vertex,
     b: Vertex,
     c: Vertex,
-    // whether b and c are exchanged in the oriented triangle
+    // whether the oriented triangle has b and c exchanged
     turned: bool,
-    // the doubled area, without its sign
+    // the absolute value of the doubled area
     pub(crate) area: u32,
 }
 
@@ -58,8 +58,9 @@ impl Tri {
     ghost use Rattle.edge_walk.specs.Triangle.{corners, oriented, IsDrawn, is_drawn, is_inside};
     ghost use Rattle.edge_walk.specs.Oriented.{corners_of};
 
-    /// The triangle with these vertices. None exactly where its doubled area is 0, or the size rule refuses it: two of
-    /// its vertices lie more than 1023 apart in X or more than 511 in Y (psx-spx, "GPU Render Polygon Commands").
+    /// Returns the triangle with these vertices. Returns `None` exactly if its doubled area is 0 or the size rule
+    /// refuses it: two vertices are more than 1023 apart in X or more than 511 in Y (psx-spx, "GPU Render Polygon
+    /// Commands").
     pub fn new(a: Vertex, b: Vertex, c: Vertex) -> Option<Tri>
         ensures value { SomeIff result (IsDrawn (corners a b c)) (corners a b c) }
         ensures drawn { is_some result ≡ is_drawn (corners a b c) }
@@ -80,7 +81,7 @@ impl Tri {
         })
     }
 
-    // This triangle, its second and third vertex exchanged where the doubled area is below 0.
+    // Returns this triangle, with its second and third vertex exchanged if the doubled area is negative.
     pub(crate) fn oriented_triangle(&self) -> Oriented
         ensures same { corners_of result ≡ oriented self.now }
         ensures drawn { IsDrawn self.now }
@@ -99,7 +100,7 @@ impl Tri {
         }
     }
 
-    /// Whether the triangle draws a cell.
+    /// Returns whether the triangle draws the cell (`x`, `y`), unless a box clips it.
     pub fn inside(&self, x: i32, y: i32) -> bool
         ensures value { result ≡ is_inside self.now x y }
         ensures in_bounds { IsTrue result → IsInBox (bounding_box self.now) x y }
@@ -111,7 +112,7 @@ impl Tri {
         all_three(first, second, third)
     }
 
-    /// The smallest box that has the three vertices.
+    /// Returns the smallest box that contains the three vertices.
     pub fn bounds(&self) -> Box2
         ensures value { result ≡ bounding_box self.now }
         ensures drawn { IsDrawn self.now }
@@ -119,8 +120,8 @@ impl Tri {
         bounding_box(&self.a, &self.b, &self.c)
     }
 
-    /// The first and the last column of the cells inside that stand in a row of a box. All cells between them are
-    /// inside. None exactly where the row has no such cell.
+    /// Returns the first and the last column of the cells inside in row `y` of the box. All cells between them are
+    /// inside. Returns `None` exactly if the row has no such cell.
     pub fn row_span(&self, y: i32, clip: &Box2) -> Option<(i32, i32)>
         ensures { MatchOption result ((x : ℤ) → IsInBox clip.now x y → is_inside self.now x y ≡ false)
             (λ span. IsRowSpan self.now y clip.now span.0 span.1) }
@@ -140,7 +141,8 @@ impl Tri {
         self.rows(&row).next()
     }
 
-    /// Red, green, blue, u or v, numbered from 0, at a cell inside.
+    /// Returns attribute `which` at the cell (`x`, `y`): red, green, blue, u or v, numbered from 0. The cell must be
+    /// inside.
     pub fn attr_at(&self, which: u8, x: i32, y: i32) -> u8
         requires which { which ≤ 4 }
         requires inside { IsTrue (is_inside self.now x y) }
@@ -158,7 +160,8 @@ impl Tri {
         )
     }
 
-    /// A walk over the rows of a box, which are rows of `bounds`. It stands at the first one.
+    /// Returns a scan over the rows of the box `clip`, starting at its first row. All rows of the box must be rows of
+    /// `bounds`.
     #[inline(always)]
     pub fn rows(&self, clip: &Box2) -> RowScan
         requires { HasRows self.now clip.now }

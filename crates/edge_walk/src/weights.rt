@@ -1,4 +1,4 @@
-// Attributes of a single cell, mixed by its edge values.
+// Attributes of a single cell, weighted by its edge values.
 ghost use Rattle.std.specs.Prelude.{◌≡◌, ◌+◌, ◌*◌, ◌/◌, ◌≤◌, pos, ◌≤ℤ◌, IsTrue};
 ghost use Rattle.edge_walk.specs.Triangle.{IsNear, doubled_area, edge, is_within};
 ghost use Rattle.edge_walk.specs.Divisor.{IsDivisor};
@@ -9,7 +9,7 @@ use crate::edge::edge;
 use crate::oriented::Oriented;
 use px_num::Vertex;
 
-// The edge values of a cell inside, each of the edge opposite to a vertex. Their sum is the doubled area.
+// The edge values of a cell inside, each of the edge opposite a vertex. Their sum is the doubled area.
 #[derive(Drop)]
 pub(crate) struct Weights {
     first: u32,

@@ -1,4 +1,4 @@
--- What is due at events, one after another, and gathered.
+-- Output of successive events, and its buffering.
 use Rattle.std.proofs.Common.{◌≡◌, ◌⊎◌, ◌++◌, List, [], ◌∷◌, ℕ, Option, refl, ap, sym, ◌∙◌}
 use Rattle.std.proofs.Common.{subst, inl, inr}
 use Rattle.dev_io.specs.Device.{AppendsPart, appended}
@@ -8,7 +8,7 @@ use Rattle.gathered_out.specs.Pieces.{AreOut, Piece, bytes_of, piece}
 use Rattle.gathered_out.specs.Puts.{AreNumbered, ArePieces, BreaksPut, BreaksWriting, IsPut, IsWritten, holding}
 use Rattle.gathered_out.proofs.Pieces.{bytes_append, none_gathered}
 
--- a piece among others is a part of what is due at an event, behind what was due before and the front of it
+-- a piece among others is a part of an event's output, after all earlier output and the front of its own
 pub record IsPart (Due : ℕ → List ℕ → List ℕ → Type 0) (base mid : Option (List ℕ)) (whole : List Piece)
     (broken : Piece) : Type 0 where
   pub was : List ℕ
@@ -19,8 +19,8 @@ pub record IsPart (Due : ℕ → List ℕ → List ℕ → Type 0) (base mid : O
   pub stands : appended mid (bytes_of whole) ≡ appended (appended base was) front
   pub due_is : due ≡ front ++ (broken.bytes ++ rest)
 
--- All of these bytes are out behind a base, or gathered; and each piece since all was last written is a part of what is
--- due at an event.
+-- All of these bytes are written after a base or buffered. Each piece since the last flush is a part of an event's
+-- output.
 pub record Gathers (Due : ℕ → List ℕ → List ℕ → Type 0) (base : Option (List ℕ)) (all : List ℕ)
     (held : Option (List ℕ)) (gathered : List Piece) : Type 0 where
   pub mid : Option (List ℕ)
@@ -30,14 +30,14 @@ pub record Gathers (Due : ℕ → List ℕ → List ℕ → Type 0) (base : Opti
   pub parts : (whole : List Piece) (broken : Piece) (later : List Piece) → pieces ≡ whole ++ broken ∷ later
       → IsPart Due base mid whole broken
 
--- a part of what is due at an event was written, and all that was due before
+-- a part of an event's output was written, and all output before it
 pub record BreaksDue (Due : ℕ → List ℕ → List ℕ → Type 0) (base now : Option (List ℕ)) (lacking : ℕ) : Type 0 where
   pub was : List ℕ
   pub due : List ℕ
   pub is : Due lacking was due
   pub held : AppendsPart (appended base was) now due
 
--- ---- nothing is gathered
+-- ---- the buffer is empty
 
 no_pieces : (whole : List Piece) (broken : Piece) (later : List Piece) → [] ≡ whole ++ broken ∷ later → ⊥
 no_pieces [] broken later is = cc
@@ -68,7 +68,7 @@ breaks_at Due base mid now lacking whole broken part at stands =
           part.stands stands);
     }
 
--- ---- what is gathered is written
+-- ---- the buffer is flushed
 
 pub gathers_written : (Due : ℕ → List ℕ → List ℕ → Type 0) (base : Option (List ℕ)) (all : List ℕ)
     (held now : Option (List ℕ)) (gathered : List Piece) → Gathers Due base all held gathered
@@ -84,7 +84,7 @@ gathers_off Due base all held now gathered lacking so_far breaks =
     breaks_at Due base so_far.mid now lacking off.whole off.broken
     (so_far.parts off.whole off.broken off.later off.are) off.number_is off.stands
 
--- the same, of what more can be said of each event
+-- the same with a weaker relation of events and their output
 pub gathers_more : (Due More : ℕ → List ℕ → List ℕ → Type 0) (base : Option (List ℕ)) (all : List ℕ)
     (held : Option (List ℕ)) (gathered : List Piece)
     → ((number : ℕ) (was due : List ℕ) → Due number was due → More number was due)
@@ -107,7 +107,7 @@ gathers_more Due More base all held gathered keeps so_far = record {
       };
 }
 
--- ---- pieces in two parts
+-- ---- two lists of pieces
 
 split_pieces : (ps qs whole : List Piece) (broken : Piece) (later : List Piece) → ps ++ qs ≡ whole ++ broken ∷ later
     → ((rest : List Piece) × (ps ≡ whole ++ broken ∷ rest))
@@ -130,7 +130,7 @@ number_at number [] (f ∷ front) broken later are is = absurd cc
 number_at number (p ∷ ps) (f ∷ front) broken later are is =
     let rest : ps ≡ front ++ broken ∷ later = cc in number_at number ps front broken later are.1 rest
 
--- ---- what is due at one event more
+-- ---- the output of one more event
 
 module _ (Due More : ℕ → List ℕ → List ℕ → Type 0) (base : Option (List ℕ)) (all : List ℕ) (held : Option (List ℕ))
     (gathered : List Piece) (so_far : Gathers Due base all held gathered)
@@ -188,7 +188,7 @@ module _ (Due More : ℕ → List ℕ → List ℕ → Type 0) (base : Option (L
     parts = parts_on put.parts put.are;
   }
 
-  -- it could not be put
+  -- the output could not be put
   pub breaks_put : (now : Option (List ℕ)) (lacking : ℕ)
       → BreaksPut (piece number due) (holding held gathered) now lacking
       → BreaksDue More base now lacking

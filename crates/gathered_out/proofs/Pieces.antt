@@ -1,4 +1,4 @@
--- Records that are cut out of the bytes that are gathered.
+-- Pieces that are cut out of the buffered bytes.
 use Rattle.std.proofs.Common.{◌≡◌, ◌≤◌, ◌<◌, ◌+◌, ◌-◌, ◌++◌, ℕ, List, [], ◌∷◌, Option, Bool, true, false, cond, ltb}
 use Rattle.std.proofs.Common.{take, drop, length, refl, ap, sym, subst, ◌∙◌, arith, append_assoc, append-nil}
 use Rattle.std.proofs.Common.{length-drop}
@@ -25,7 +25,7 @@ pub cut_count : (extents : List Extent) (bytes : List ℕ) → length (cut exten
 cut_count [] bytes = refl
 cut_count (e ∷ extents) bytes = let n = cut_count extents (drop e.len bytes) in omega (arith, n)
 
--- ---- one record more
+-- ---- one more piece
 
 pub total_more : (extents : List Extent) (e : Extent) → total (extents ++ e ∷ []) ≡ total extents + e.len
 total_more [] e = omega arith
@@ -47,7 +47,7 @@ cut_more (x ∷ extents) e bytes more is long =
     ∙ ap (λ (ps : List Piece). piece (take x.len bytes) ∷ ps)
     (cut_more extents e (drop x.len bytes) more (omega (arith, is, length-drop x.len bytes)) long)
 
--- ---- the first that lacks a byte
+-- ---- the first incomplete piece
 
 abbrev piece_of : Extent → List ℕ → Piece
 piece_of e bytes = record { number = e.number; bytes = take e.len bytes }
@@ -116,18 +116,18 @@ breaks_off (e ∷ extents) bytes taken before now is lt took =
     (λ rest_is rest_lt rest_took. breaks_off extents (drop e.len bytes) (taken - e.len)
     (appended before (take e.len bytes)) now rest_is rest_lt rest_took)
 
--- ---- pieces that are out, but for those that are gathered
+-- ---- pieces that are written, except those that are buffered
 
 pub bytes_append : (xs ys : List Piece) → bytes_of (xs ++ ys) ≡ bytes_of xs ++ bytes_of ys
 bytes_append [] ys = refl
 bytes_append (x ∷ xs) ys =
     ap (λ bs. x.bytes ++ bs) (bytes_append xs ys) ∙ sym (append_assoc x.bytes (bytes_of xs) (bytes_of ys))
 
--- what is gathered is out behind what the sink holds
+-- the buffered pieces follow the content of the sink
 pub only_gathered : (held : Option (List ℕ)) (gathered : List Piece) → AreOut held gathered held gathered
 only_gathered held gathered = record { written = []; are = refl; stands = sym (appended-nil held) }
 
--- once those that are gathered are written, all stand
+-- once the buffered pieces are written, all are
 pub all_out : (before held now : Option (List ℕ)) (pieces gathered : List Piece) → AreOut before pieces held gathered
     → now ≡ appended held (bytes_of gathered) → now ≡ appended before (bytes_of pieces)
 all_out before held now pieces gathered out took =
@@ -135,7 +135,7 @@ all_out before held now pieces gathered out took =
     ∙ appended-appended before (bytes_of out.written) (bytes_of gathered)
     ∙ ap (appended before) (sym (bytes_append out.written gathered) ∙ ap bytes_of (sym out.are))
 
--- and nothing is gathered then
+-- the buffer is empty then
 pub none_gathered : (before now : Option (List ℕ)) (pieces : List Piece) → now ≡ appended before (bytes_of pieces)
     → AreOut before pieces now []
 none_gathered before now pieces stands = record {
@@ -152,7 +152,7 @@ one_gathered before held pieces gathered p out = record {
   stands = out.stands;
 }
 
--- where writing those that are gathered breaks off, so does writing all
+-- if writing the buffered pieces fails, so does writing all
 pub breaks_all : (before held now : Option (List ℕ)) (pieces gathered : List Piece) (number : ℕ)
     → AreOut before pieces held gathered → BreaksOff gathered held now number → BreaksOff pieces before now number
 breaks_all before held now pieces gathered number out off =

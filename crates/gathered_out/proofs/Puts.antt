@@ -1,4 +1,4 @@
--- Pieces of one event that are put, one after another.
+-- Pieces of one event that are put one after another.
 use Rattle.std.proofs.Common.{◌≡◌, ◌≤◌, ◌++◌, List, [], ◌∷◌, ℕ, Option, Result, Ok, Err, OnOk, IfErr, OnErr, refl}
 use Rattle.std.proofs.Common.{append_assoc, ap, sym, ◌∙◌, arith, append-nil}
 use Rattle.dev_io.specs.Device.{Rose}
@@ -58,9 +58,9 @@ put_one number bytes before now (Err e) ok failed cause faults = record {
   faults = faults;
 }
 
--- ---- bytes that were put
+-- ---- output that was put
 
--- these bytes were put since a sink and what is gathered were as they were before
+-- this output was put between the states `before` and `now` of a sink and its buffer
 pub record HasPut (due : Piece) (before now : SinkState) : Type 0 where
   pub put : IsPut due (holding before.held before.gathered) (holding now.held now.gathered)
   pub faults : before.faults ≤ now.faults
@@ -75,7 +75,7 @@ put_none number at = record {
   faults = omega arith;
 }
 
--- a call more that put all of its bytes
+-- one more call that put all of its bytes
 pub put_on : {Value : Type 0} (number : ℕ) (before mid now : SinkState) (xs ys : List ℕ) (v : Value)
     → HasPut (piece number xs) before mid → Puts {Value = Value} (piece number ys) mid now (Ok v)
     → HasPut (piece number (xs ++ ys)) before now
@@ -94,7 +94,7 @@ put_on number before mid now xs ys v first next =
       faults = let a = first.faults in let b = next.faults in omega (arith, a, b);
     }
 
--- a call more that failed, of bytes behind which others were to come
+-- one more call that failed, with further bytes to follow
 pub put_fails : {Value Other : Type 0} (number : ℕ) (before mid now : SinkState) (xs ys zs : List ℕ) (e : ℕ)
     → HasPut (piece number xs) before mid → Puts {Value = Value} (piece number ys) mid now (Err e)
     → Puts {Value = Other} (piece number (xs ++ (ys ++ zs))) before now (Err e)
@@ -120,12 +120,12 @@ put_fails number before mid now xs ys zs e first next =
       faults = let a = first.faults in let b = next.faults in omega (arith, a, b);
     }
 
--- all was put
+-- all output was put
 pub puts_all : {Value : Type 0} (due : Piece) (before now : SinkState) (v : Value) → HasPut due before now
     → Puts {Value = Value} due before now (Ok v)
 puts_all due before now v done = record { ok = done.put; failed = tt; cause = tt; faults = done.faults }
 
--- a call more that is the last one
+-- one more call, which is the last
 pub puts_on : {Value : Type 0} (number : ℕ) (before mid now : SinkState) (xs ys : List ℕ) (result : Result Value ℕ)
     → HasPut (piece number xs) before mid → Puts (piece number ys) mid now result
     → Puts (piece number (xs ++ ys)) before now result
@@ -135,7 +135,7 @@ puts_on number before mid now xs ys (Err e) first next =
     let on = put_fails number before mid now xs ys [] e first next in
     rw (← append-nil ys) on
 
--- the first call of several put all of its bytes
+-- the first of several calls put all of its bytes
 pub put_first : {Value : Type 0} (due : Piece) (before now : SinkState) (v : Value)
     → Puts {Value = Value} due before now (Ok v) → HasPut due before now
 put_first due before now v next = record { put = next.ok; faults = next.faults }

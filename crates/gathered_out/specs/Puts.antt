@@ -1,4 +1,4 @@
--- Bytes that are due at one event, gathered in pieces of its number (our own rule).
+-- Output of one event, buffered in pieces with its number (our own rule).
 use Rattle.std.specs.Prelude.{◌≡◌, ◌≤◌, ◌++◌, ℕ, List, [], ◌∷◌, Option, Result, IfErr, OnErr, OnOk}
 use Rattle.dev_io.specs.Device.{Rose, appended}
 use Rattle.gathered_out.specs.Pieces.{AreOut, BreaksOff, Piece, bytes_of}
@@ -7,12 +7,12 @@ abbrev pub AreNumbered : ℕ → List Piece → Type 0
 AreNumbered number [] = Unit {0}
 AreNumbered number (p ∷ pieces) = (p.number ≡ number) × AreNumbered number pieces
 
--- pieces of the event of this number, which are these bytes together
+-- pieces with this event number that together are these bytes
 pub record ArePieces (number : ℕ) (bytes : List ℕ) (pieces : List Piece) : Type 0 where
   pub numbers : AreNumbered number pieces
   pub bytes_are : bytes_of pieces ≡ bytes
 
--- what a sink holds (None where it is not told), and the pieces that are gathered for it
+-- the content of a sink (None if unknown), and the buffered pieces for it
 pub record Holding : Type 0 where
   pub held : Option (List ℕ)
   pub gathered : List Piece
@@ -20,21 +20,21 @@ pub record Holding : Type 0 where
 abbrev pub holding : Option (List ℕ) → List Piece → Holding
 holding held gathered = record { held = held; gathered = gathered }
 
--- These bytes, due at their event, were put: behind all pieces before them they are out or gathered.
+-- The output `due` of an event was put: after all earlier pieces, it is written or buffered.
 pub record IsPut (due : Piece) (before now : Holding) : Type 0 where
   pub parts : List Piece
   pub are : ArePieces due.number due.bytes parts
   pub out : (base : Option (List ℕ)) (pieces : List Piece) → AreOut base pieces before.held before.gathered
       → AreOut base (pieces ++ parts) now.held now.gathered
 
--- They could not be put: the writing broke off among them and the pieces before them.
+-- The output could not be put: writing failed within it or within the pieces before it.
 pub record BreaksPut (due : Piece) (before : Holding) (now : Option (List ℕ)) (lacking : ℕ) : Type 0 where
   pub parts : List Piece
   pub are : ArePieces due.number due.bytes parts
   pub off : (base : Option (List ℕ)) (pieces : List Piece) → AreOut base pieces before.held before.gathered
       → BreaksOff (pieces ++ parts) base now lacking
 
--- a sink, and what is gathered for it
+-- a sink, and the buffered pieces for it
 pub record SinkState : Type 0 where
   pub held : Option (List ℕ)
   pub faults : ℕ
@@ -44,19 +44,19 @@ abbrev pub sink_state : {Sink : Type 0} → (held : Sink → Option (List ℕ)) 
     → SinkState
 sink_state held faults sink gathered = record { held = held sink; faults = faults sink; gathered = gathered }
 
--- What a call that puts these bytes, due at their event, does to them: after a failure the count of faults rose.
+-- The effect of a call that puts the output `due` of an event. On failure the sink's count of faults is larger.
 pub record Puts {Value : Type 0} (due : Piece) (before now : SinkState) (result : Result Value ℕ) : Type 0 where
   pub ok : OnOk result (IsPut due (holding before.held before.gathered) (holding now.held now.gathered))
   pub failed : IfErr result (BreaksPut due (holding before.held before.gathered) now.held)
   pub cause : OnErr result (Rose before.faults now.faults)
   pub faults : before.faults ≤ now.faults
 
--- All that was gathered was written.
+-- All buffered pieces were written.
 pub record IsWritten (before now : Option (List ℕ)) (old : List Piece) : Type 0 where
   pub stands : (base : Option (List ℕ)) (pieces : List Piece) → AreOut base pieces before old
       → now ≡ appended base (bytes_of pieces)
 
--- It was not: the writing broke off among all pieces.
+-- They were not: writing failed within one of the pieces.
 pub record BreaksWriting (before now : Option (List ℕ)) (old : List Piece) (lacking : ℕ) : Type 0 where
   pub off : (base : Option (List ℕ)) (pieces : List Piece) → AreOut base pieces before old
       → BreaksOff pieces base now lacking

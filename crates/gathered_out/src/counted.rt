@@ -1,4 +1,4 @@
-// Bytes that are written whole, or counted as far as they were.
+// Writes that count the bytes written before a failure.
 ghost use Rattle.std.specs.Prelude.{◌≡◌, ◌≤◌, ◌<◌, length, take, IfErr, OnErr, OnOk};
 ghost use Rattle.dev_io.specs.Device.{Rose, appended};
 ghost use Rattle.gathered_out.specs.Pieces.{lacking};
@@ -6,7 +6,7 @@ ghost use Rattle.gathered_out.specs.Pieces.{lacking};
 use crate::extent::Extent;
 use dev_io::Sink;
 
-/// Writes the whole piece. The answer to a failure is how many of its bytes were taken.
+/// Writes all bytes of `piece`. On failure, returns how many of its bytes were written, fewer than all.
 pub(crate) fn write_counted<K: Sink>(out: &mut K, piece: &[u8]) -> Result<(), usize>
     ensures ok { OnOk result (K.held out.new ≡ appended (K.held out.old) piece.now) }
     ensures part { IfErr result (λ taken. taken < length piece.now) }
@@ -24,7 +24,8 @@ pub(crate) fn write_counted<K: Sink>(out: &mut K, piece: &[u8]) -> Result<(), us
     Ok(())
 }
 
-/// The number of the first piece that lacks one of the bytes, where so many of all were taken.
+/// Returns the event number of the first piece that is incomplete, if `taken` bytes of all pieces were written.
+/// Returns 0 if all pieces are complete.
 pub(crate) fn first_lacking(extents: &[Extent], taken: usize) -> u64
     ensures { result ≡ lacking extents.now taken }
 {

@@ -1,6 +1,6 @@
-// Where a piece stands among others.
+// The extent of a piece within the buffer.
 
-/// The number of a piece's event, and how many bytes the piece has.
+/// The event number and the length in bytes of a piece.
 #[derive(Clone, Copy, Default, Debug, PartialEq, Eq)]
 pub(crate) struct Extent {
     pub number: u64,

@@ -1,4 +1,4 @@
-// Pieces that are gathered.
+// Buffered pieces.
 ghost use Rattle.std.specs.Prelude.{◌≡◌, ◌≤◌, ◌<◌, ◌+◌, ◌++◌, ◌∷◌, [], List, ℕ, Option, IsTrue, length};
 ghost use Rattle.std.specs.Prelude.{IfErr, OnErr, OnOk};
 ghost use Rattle.dev_io.specs.Device.{Rose, appended};
@@ -10,13 +10,14 @@ use arrayvec::ArrayVec;
 use dev_io::Sink;
 use std::marker::Model;
 
-/// How many bytes are gathered at most.
+/// The capacity in bytes.
 const ROOM: usize = 4096;
 
-/// How many pieces are gathered at most.
+/// The capacity in pieces.
 const PIECES: usize = 512;
 
-/// Pieces that are gathered and not written yet, at most 4,096 bytes of them. Contracts see the list of the pieces.
+/// An output buffer: pieces that are not written yet, at most 512 pieces and 4,096 bytes. In contracts it is the list
+/// of the pieces.
 #[derive(Drop)]
 pub struct Gathered {
     bytes: ArrayVec<u8, ROOM>,
@@ -34,7 +35,7 @@ impl Model for Gathered {
     ghost invariant = { λ g. total g.extents.items ≡ length g.bytes.items };
 }
 
-// Whether a piece of so many bytes fits behind so many bytes and pieces.
+// Returns whether a piece of `len` bytes fits after `bytes` bytes and `pieces` pieces.
 fn fits(bytes: usize, pieces: usize, len: usize) -> bool
     requires { bytes ≤ 4096 }
     ensures bytes { IsTrue result → bytes + len ≤ 4096 }
@@ -44,7 +45,7 @@ fn fits(bytes: usize, pieces: usize, len: usize) -> bool
 }
 
 impl Gathered {
-    /// None yet. It takes no memory of the heap.
+    /// Returns an empty buffer. Allocates nothing on the heap.
     pub fn new() -> Gathered
         ensures { result ≡ [] }
     {
@@ -54,7 +55,7 @@ impl Gathered {
         }
     }
 
-    // Whether there is room for a piece of so many bytes.
+    // Returns whether there is room for a piece of `len` bytes.
     fn has_room(&self, len: usize) -> bool
         ensures bytes { IsTrue result → length (bytes_of self.now) + len ≤ 4096 }
         ensures pieces { IsTrue result → length self.now < 512 }
@@ -62,7 +63,7 @@ impl Gathered {
         fits(self.bytes.len(), self.extents.len(), len)
     }
 
-    // Adds a piece for which there is room.
+    // Adds a piece. There must be room for it.
     fn add(&mut self, number: u64, bytes: &[u8])
         requires bytes { length (bytes_of self.old) + length bytes.now ≤ 4096 }
         requires pieces { length self.old < 512 }
@@ -77,7 +78,8 @@ impl Gathered {
         });
     }
 
-    // Writes all that is gathered where there is no room for a piece of so many bytes.
+    // Flushes the buffer to `out` if it has no room for a piece of `len` bytes. On failure, returns the event number
+    // of the first incomplete piece.
     fn make_room<K: Sink>(&mut self, len: usize, out: &mut K) -> Result<(), u64>
         requires { len ≤ 4096 }
         ensures ok { (before : Option (List ℕ)) (pieces : List Piece) → AreOut before pieces (K.held out.old) self.old
@@ -97,9 +99,9 @@ impl Gathered {
         }
     }
 
-    /// Adds a piece of at most 4,096 bytes, which is due at the event of this number. Where there is no room for it,
-    /// what is gathered is written first. The answer to a failure is the number of the first piece that lacks a byte,
-    /// one of those before this; nothing more can be written then.
+    /// Adds a piece of at most 4,096 bytes, which is output of event `number`. If there is no room for it, flushes
+    /// the buffer to `out` first. On failure, returns the event number of the first incomplete piece, which is one of
+    /// the pieces before this. The buffer must not be used after a failure.
     pub fn put<K: Sink>(&mut self, number: u64, bytes: &[u8], out: &mut K) -> Result<(), u64>
         requires { length bytes.now ≤ 4096 }
         ensures ok { (before : Option (List ℕ)) (pieces : List Piece) → AreOut before pieces (K.held out.old) self.old
@@ -119,8 +121,8 @@ impl Gathered {
         }
     }
 
-    /// Writes all that is gathered, and nothing is gathered then. The answer to a failure is the number of the first
-    /// piece that lacks a byte; nothing more can be written then.
+    /// Flushes the buffer to `out` and empties it. On failure, returns the event number of the first incomplete
+    /// piece. The buffer must not be used after a failure.
     pub fn write<K: Sink>(&mut self, out: &mut K) -> Result<(), u64>
         ensures ok { (before : Option (List ℕ)) (pieces : List Piece) → AreOut before pieces (K.held out.old) self.old
             → OnOk result (K.held out.new ≡ appended before (bytes_of pieces)) }
@@ -141,7 +143,7 @@ impl Gathered {
         }
     }
 
-    // Writes all that is gathered. The answer to a failure is the number of the first piece that lacks a byte.
+    // Writes all pieces of the buffer to `out`. On failure, returns the event number of the first incomplete piece.
     fn write_out<K: Sink>(&self, out: &mut K) -> Result<(), u64>
         ensures ok { OnOk result (K.held out.new ≡ appended (K.held out.old) (bytes_of self.now)) }
         ensures failed { IfErr result (BreaksOff self.now (K.held out.old) (K.held out.new)) }

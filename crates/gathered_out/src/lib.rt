@@ -1,7 +1,7 @@
-//! Pieces of output that are gathered, so that the sink is called once for many of them.
+//! Buffered output, so that the sink is called once for many pieces.
 //!
-//! A piece is what is due at one event, or a part of it: a line or a record, with the event's number. Where a write
-//! fails, the answer is the number of the first piece that lacks a byte, however many pieces were written together.
+//! A piece is an output chunk: a line or a record with the number of its event, or a part of one. If a write fails,
+//! the error is the event number of the first incomplete piece, however many pieces were written together.
 #![tactic(auto)]
 
 mod counted;

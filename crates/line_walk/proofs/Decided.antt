@@ -1,4 +1,4 @@
--- Whether the size rule admits a segment, as a fact and as a test.
+-- Whether the size rule admits a segment, as a proposition and as a test.
 use Rattle.std.proofs.Common.{ℕ, ◌≤◌, ◌≡◌, ◌-ℤ◌, ◌↔◌, IsTrue, Bool, true, false, ◌&&◌, leb, unsigned_abs, refl, sym}
 use Rattle.std.proofs.Common.{arith}
 use Rattle.std.proofs.lemmas.Bool.Decides.{nat_tests}

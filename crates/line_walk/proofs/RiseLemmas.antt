@@ -67,7 +67,7 @@ sum-amid from to n k some within = (
   omega (arith, ints, clamps, rise-high (to -ℤ from) n k some within),
 )
 
--- where there is a step
+-- if there is at least one step
 pub along-some : (from to : ℤ) (n k : ℕ) → n ≢ 0 → along from to n k ≡ (from +ℤ rise (to -ℤ from) n k)
 along-some from to n k some = let e : eqb n 0 ≡ false = grind (arith, nat_tests) in
     ap (λ t. cond t from (from +ℤ rise (to -ℤ from) n k)) e
@@ -77,18 +77,18 @@ by_steps : (t : Bool) (from to : ℤ) (n k : ℕ) → t ≡ eqb n 0 → k ≤ n
 by_steps true from to n k e within = (omega (arith, ints, clamps), omega (arith, ints, clamps))
 by_steps false from to n k e within = let some : 0 < n = grind (arith, nat_tests) in sum-amid from to n k some within
 
--- a value along a segment lies between those at its ends
+-- a value along a segment is between those at its ends
 pub along-amid : (from to : ℤ) (n k : ℕ) → k ≤ n → IsAmid from to (along from to n k)
 along-amid from to n k within = by_steps (eqb n 0) from to n k refl within
 
--- each point lies in the box of the ends
+-- each point is in the box of the ends
 pub point_of-between : (s : Ends) (k : ℕ) → k < len_of s → IsBetweenEnds s (point_of s k)
 point_of-between s k within = record {
   across = along-amid s.first.x s.second.x (steps_of s) k (omega arith);
   down = along-amid s.first.y s.second.y (steps_of s) k (omega arith);
 }
 
--- ---- the change as a quotient of plain numbers
+-- ---- the change as a quotient of natural numbers
 
 pub floor_only : (p q a : ℤ) (b : ℕ) → IsFloor p a (pos b) → IsFloor q a (pos b) → p ≡ q
 floor_only p q a b f g =
@@ -136,7 +136,7 @@ rise-down (pos d) n k q some h e = absurd (omega (arith, ints))
 rise-down (negsuc d) n k q some h e = floor_only _ _ _ (2 * n) (down_floor d n k q some e)
     (floor_is _ (pos (2 * n)) (omega (arith, ints)))
 
--- ---- a value that stays
+-- ---- a value that does not change
 
 rise-none : (n k : ℕ) → 0 < n → pos 0 ≡ rise (pos 0) n k
 rise-none n k some =

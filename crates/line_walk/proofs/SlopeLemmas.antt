@@ -1,4 +1,4 @@
--- A slope's value is the value along the segment.
+-- The current value of a slope is the value along the segment.
 use Rattle.std.proofs.Common.{ℕ, ◌+◌, ◌*◌, ◌/◌, ◌%◌, ◌^◌, ◌≤◌, ◌<◌, ◌≡◌, ◌≢◌, ℤ, pos, ◌+ℤ◌, ◌-ℤ◌, ◌*ℤ◌, ◌≤ℤ◌, ◌<ℤ◌, max}
 use Rattle.std.proofs.Common.{zero, suc, negsuc, w32, SFits, refl, ap, sym, ◌∙◌, arith, unsigned_abs}
 use Rattle.std.specs.Int.{int_div_euclid}
@@ -15,7 +15,7 @@ use Rattle.line_walk.specs.declared.slope.Slope.{Slope}
 use Rattle.line_walk.specs.declared.tones.Tones.{Tones}
 use Rattle.line_walk.proofs.RiseLemmas.{along-some, along-amid, floor_only, mul_mono}
 
--- ---- what holds of twice the steps' multiple holds of the value
+-- ---- from twice the steps' multiple to the value
 
 cancelled : (a c : ℤ) (b : ℕ) → 0 < b → (a *ℤ pos b) ≤ℤ (c *ℤ pos b) → a ≤ℤ c
 cancelled a c b some le =
@@ -83,7 +83,7 @@ shr_is : (z : ℤ) (d : ℕ) → shr_z z d ≡ int_div_euclid z (pos d)
 shr_is (pos a) d = refl
 shr_is (negsuc a) d = refl
 
--- too little to be seen
+-- an error too small to change the value
 unseen : (n k over : ℕ) → n ≤ 1023 → k ≤ n → over ≤ n → 2 * k * over < 2 * 2 ^ 20
 unseen n k over most le little =
     let a = mul-le-mul_right over le in
@@ -106,7 +106,7 @@ slope_value from to n k s some most le is =
     (floor_is _ (pos (2 ^ 21)) (omega (arith, ints))) found
     ∙ sym (along-some from to n k more)
 
--- also where there is no step
+-- also if there is no step
 at_first : (from step : ℤ) (k : ℕ) → k ≤ 0 → IsFloor from (from *ℤ pos (2 ^ 21) +ℤ (pos (2 ^ 20) +ℤ pos k *ℤ step))
     (pos (2 ^ 21))
 at_first from step k le =
@@ -180,7 +180,7 @@ slope_on from to n k s is =
     let place = is.place in
     record { over = is.over; little = is.little; step = is.step; place = omega (arith, ints, place, more) }
 
--- the cuts of a segment, as they are called
+-- the steps of a segment's slopes, at least 1
 pub one_cut : (from to : ℤ) (n k cuts : ℕ) (s : Slope) → cuts ≡ max n 1 → IsSlope from to cuts k s
     → IsSlope from to (max 1 n) k s
 one_cut from to n k cuts s e is = let turned : cuts ≡ max 1 n = omega (arith, e) in rw turned at is

@@ -1,4 +1,4 @@
--- What contracts see of a walk, and what its values are.
+-- The value of a walk in contracts, and its invariant.
 use Rattle.std.specs.Prelude.{◌≡◌, ◌≤◌, max}
 use Rattle.line_walk.specs.Line.{IsNear, ends, len_of, steps_of}
 use Rattle.line_walk.specs.Walk.{AreTones, IsSlope, Walking}
@@ -7,8 +7,8 @@ use Rattle.line_walk.specs.declared.walk.Walk.TheInside.{Inside}
 abbrev pub walking_of : Inside → Walking
 walking_of w = record { ends = ends w.a w.b; at = w.at }
 
--- its slopes, of both coordinates and of the colour, are at the point that comes next; a segment of one point is cut
--- into one step too
+-- the slopes of both coordinates and of the colour are at the next point; a segment of one point also counts as one
+-- step for its slopes
 pub record IsWalk (w : Inside) : Type 0 where
   pub near : IsNear w.a w.b
   pub count : w.steps ≡ steps_of (ends w.a w.b)

@@ -1,7 +1,7 @@
-//! Segments by points: which cells a line draws, and the colour of each.
+//! Lines: which cells a segment draws, and the colour of each.
 //!
-//! Vertices have the drawing offset added. A segment steps along its longer side, one cell at a time, and
-//! both of its ends belong to it.
+//! The coordinates of vertices include the drawing offset. A segment takes one step per cell along its longer side.
+//! Both of its ends belong to it.
 #![tactic(auto)]
 
 mod rise;

@@ -1,15 +1,15 @@
-// One value along a segment.
+// A coordinate or channel along a segment.
 ghost use Rattle.std.specs.Prelude.{◌≡◌, ◌≤◌, ◌<◌, ◌+◌, ◌*◌, ◌/◌, ◌-ℤ◌, unsigned_abs};
 ghost use Rattle.line_walk.specs.Line.{rise, along, IsAmid};
 
-// A value that changes from one end to the other.
+// The values at both ends of a segment.
 #[derive(Clone, Copy)]
 pub(crate) struct Run {
     pub(crate) from: i32,
     pub(crate) to: i32,
 }
 
-// The quotient of 2 k d + start over 2 n, where start is less than 2 n.
+// Returns `(2 * k * d + start) / (2 * n)`, rounded down. `start` is at most `n`.
 fn quotient(d: u32, n: u32, k: u32, start: u32) -> u32
     requires near { d ≤ 1023 }
     requires some { 0 < n }
@@ -21,7 +21,7 @@ fn quotient(d: u32, n: u32, k: u32, start: u32) -> u32
     (2 * k * d + start) / (2 * n)
 }
 
-// The same where the value changes by 1 at each step, or by less.
+// As `quotient`, without a division if `d` equals `n`.
 fn distance(d: u32, n: u32, k: u32, start: u32) -> u32
     requires near { d ≤ 1023 }
     requires some { 0 < n }
@@ -33,7 +33,8 @@ fn distance(d: u32, n: u32, k: u32, start: u32) -> u32
     if d == n { k } else { quotient(d, n, k, start) }
 }
 
-// How much a value has changed at step k of n, if it changes by d in all.
+// Returns the change of a value at step `k` of `n`, if it changes by `d` in `n` steps. Rounds to the nearest integer,
+// and upward from the middle.
 fn rise(d: i64, n: u32, k: u32) -> i64
     requires near { unsigned_abs d ≤ 1023 }
     requires some { 0 < n }
@@ -49,7 +50,7 @@ fn rise(d: i64, n: u32, k: u32) -> i64
     }
 }
 
-// The value at step k of n.
+// Returns the value at step `k` of `n`. It is between the two ends. If `n` is 0, returns the value at the first end.
 pub(crate) fn along(run: &Run, n: u32, k: u32) -> i32
     requires near { unsigned_abs (run.now.from -ℤ run.now.to) ≤ 1023 }
     requires steps { n ≤ 1023 }

@@ -4,12 +4,12 @@ use crate::walk::Walk;
 use px_num::Vertex;
 use std::marker::Model;
 
-/// A segment that the size rule admits. Contracts see it as its two vertices in their order.
+/// A segment that the size rule admits. In contracts it is its two vertices in their order.
 #[derive(Clone, Copy)]
 pub struct Segment {
     a: Vertex,
     b: Vertex,
-    // how many steps lead from a to b
+    // the number of steps from a to b
     steps: u32,
 }
 
@@ -35,8 +35,8 @@ impl Segment {
     ghost use Rattle.line_walk.specs.Line.{ends, len_of, point_of, is_near, IsNear, IsBetweenEnds};
     ghost use Rattle.line_walk.specs.Walk.{Walking};
 
-    /// The segment with these vertices. None exactly where the size rule refuses it: they lie more than 1023 apart in
-    /// X or more than 511 in Y (psx-spx, "GPU Render Line Commands").
+    /// Returns the segment from `a` to `b`. Returns `None` exactly if the size rule refuses it: the vertices are more
+    /// than 1023 apart in X or more than 511 in Y (psx-spx, "GPU Render Line Commands").
     pub fn new(a: Vertex, b: Vertex) -> Option<Segment>
         ensures value { SomeIff result (IsNear a b) (ends a b) }
         ensures drawn { is_some result ≡ is_near a b }
@@ -51,21 +51,21 @@ impl Segment {
         }
     }
 
-    /// The vertex that it begins at.
+    /// Returns the first vertex.
     pub fn first(&self) -> Vertex
         ensures { result ≡ self.now.first }
     {
         self.a
     }
 
-    /// The vertex that it ends at.
+    /// Returns the second vertex.
     pub fn second(&self) -> Vertex
         ensures { result ≡ self.now.second }
     {
         self.b
     }
 
-    /// The number of points: 1 more than the longer side has steps.
+    /// Returns the number of points, 1 to 1024: the steps along the longer side plus 1.
     pub fn len(&self) -> u32
         ensures value { result ≡ len_of self.now }
         ensures some { 1 ≤ result }
@@ -74,7 +74,7 @@ impl Segment {
         self.steps + 1
     }
 
-    /// The points in their order, from the first end on.
+    /// Returns a walk over the points in their order, from the first vertex on.
     #[inline(always)]
     pub fn walk(&self) -> Walk
         ensures { ◌≡◌ {A = Walking} result (record { ends = self.now; at = 0 }) }
@@ -82,8 +82,8 @@ impl Segment {
         Walk::new(self.a, self.b, self.steps)
     }
 
-    /// The `k`-th point from the first end on, counted from 0. Its place and each colour channel are rounded to
-    /// the nearest, and upward from the middle; its u and v are 0.
+    /// Returns point `k`, counted from 0 at the first vertex. `k` must be below the number of points. Its position
+    /// and each colour channel are rounded to the nearest integer, and upward from the middle. Its u and v are 0.
     pub fn point(&self, k: u32) -> Vertex
         requires { k < len_of self.now }
         ensures value { result ≡ point_of self.now k }
@@ -136,7 +136,7 @@ fn color_along(from: u32, to: u32, n: u32, k: u32) -> u32
     red | green << 8 | blue << 16
 }
 
-// The same, and sooner where both ends have one colour.
+// As `color_along`, but without computation if both ends have one colour.
 #[inline(always)]
 pub(crate) fn color_at(from: u32, to: u32, n: u32, k: u32) -> u32
     requires steps { n ≤ 1023 }

@@ -1,23 +1,24 @@
-// One value along a segment, step by step.
+// A coordinate or channel along a segment, step by step.
 ghost use Rattle.std.specs.Prelude.{◌≡◌, ◌≤◌, ◌<◌, ◌+◌, ◌^◌, ◌-ℤ◌, ◌≤ℤ◌, ℕ, ℤ, pos, negsuc, unsigned_abs};
 ghost use Rattle.line_walk.specs.Walk.{IsSlope, value_of};
 
 use crate::rise::Run;
 
-// How many parts a slope counts for 1: so many that the error of a step is never seen, and so few that it has 32 bits.
+// The number of fixed-point parts in 1: enough that the error of the steps is never visible, and few enough that a
+// step fits in 32 bits.
 const PARTS: i32 = 0x20_0000;
 
-// Half of them.
+// Half of `PARTS`.
 const HALF: i64 = 0x10_0000;
 
-// A value and a half more, in parts of 1, and what a step adds to them.
+// The fixed-point value plus a half, and what each step adds to it. The unit is 1 / `PARTS`.
 #[derive(Clone, Copy)]
 pub(crate) struct Slope {
     place: i64,
     step: i32,
 }
 
-// At the first end of a run in n steps.
+// Returns the slope at the first end of a run of `n` steps. `n` is 1 to 1023, and the ends are at most 1023 apart.
 #[inline(always)]
 pub(crate) fn first_slope(run: &Run, n: u32) -> Slope
     requires near { unsigned_abs (run.now.from -ℤ run.now.to) ≤ 1023 }
@@ -32,7 +33,7 @@ pub(crate) fn first_slope(run: &Run, n: u32) -> Slope
     }
 }
 
-// One step on.
+// Returns the slope after one more step.
 #[inline(always)]
 pub(crate) fn next_slope(slope: Slope) -> Slope
     requires { unsigned_abs slope.place < 2 ^ 60 }
@@ -44,7 +45,7 @@ pub(crate) fn next_slope(slope: Slope) -> Slope
     }
 }
 
-// The value that a slope has come to.
+// Returns the current value, rounded down to an integer.
 #[inline(always)]
 pub(crate) fn value_of(slope: &Slope) -> i32
     requires low { negsuc 2147483647 ≤ℤ value_of slope.now }

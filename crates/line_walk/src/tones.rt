@@ -6,7 +6,7 @@ ghost use Rattle.line_walk.specs.Walk.{AreBytes, AreTones, IsByte, IsSlope, tint
 use crate::rise::Run;
 use crate::slope::{Slope, first_slope, next_slope, value_of};
 
-// The channels of a colour.
+// The slopes of the three channels of a colour.
 #[derive(Clone, Copy)]
 pub(crate) struct Tones {
     red: Slope,
@@ -14,7 +14,7 @@ pub(crate) struct Tones {
     blue: Slope,
 }
 
-// One channel at the first end.
+// Returns the slope of one channel at the first end.
 #[inline(always)]
 fn first_tone(from: u8, to: u8, n: u32) -> Slope
     requires some { 0 < n }
@@ -28,7 +28,7 @@ fn first_tone(from: u8, to: u8, n: u32) -> Slope
     first_slope(&run, n)
 }
 
-// All three at the first end.
+// Returns the slopes of all channels at the first end.
 #[inline(always)]
 pub(crate) fn first_tones(from: u32, to: u32, n: u32) -> Tones
     requires some { 0 < n }
@@ -42,7 +42,7 @@ pub(crate) fn first_tones(from: u32, to: u32, n: u32) -> Tones
     }
 }
 
-// One step on.
+// Returns the slopes after one more step.
 #[inline(always)]
 pub(crate) fn next_tones(tones: Tones) -> Tones
     requires { AreBytes tones }
@@ -55,7 +55,7 @@ pub(crate) fn next_tones(tones: Tones) -> Tones
     }
 }
 
-// What one channel has come to.
+// Returns the current value of one channel.
 #[inline(always)]
 fn tone_of(slope: &Slope) -> u32
     requires { IsByte slope.now }
@@ -65,7 +65,7 @@ fn tone_of(slope: &Slope) -> u32
     value_of(slope) as u32
 }
 
-// The colour that the channels have come to.
+// Returns the current colour.
 #[inline(always)]
 fn tint_of(tones: &Tones) -> u32
     requires { AreBytes tones.now }
@@ -78,7 +78,7 @@ fn tint_of(tones: &Tones) -> u32
     red | green << 8 | blue << 16
 }
 
-// The same from one colour to another, and sooner where they are one.
+// Returns the current colour between `from` and `to`, without computation if they are equal.
 #[inline(always)]
 pub(crate) fn tint_between(from: u32, to: u32, tones: &Tones) -> u32
     requires { AreBytes tones.now }

@@ -5,8 +5,8 @@ use crate::tones::{Tones, first_tones, next_tones, tint_between};
 use px_num::Vertex;
 use std::marker::Model;
 
-/// A walk along a segment, point by point and without a division. Contracts see it as the segment's two
-/// vertices and the number of the point that comes next.
+/// A walk along a segment, point by point and without a division per point. In contracts it is the segment's two
+/// vertices and the index of the next point.
 #[derive(Drop)]
 pub struct Walk {
     a: Vertex,
@@ -34,7 +34,7 @@ impl Walk {
     ghost use Rattle.line_walk.specs.Line.{ends, len_of, point_of, steps_of, IsNear, IsBetweenEnds};
     ghost use Rattle.line_walk.specs.Walk.{Walking};
 
-    /// At the first of the points from `a` to `b`.
+    /// Returns a walk at the first point from `a` to `b`. `steps` is the number of steps between them.
     #[inline(always)]
     pub(crate) fn new(a: Vertex, b: Vertex, steps: u32) -> Walk
         requires near { IsNear a b }
@@ -55,7 +55,8 @@ impl Walk {
         }
     }
 
-    /// The next point, as [`Segment::point`](crate::Segment::point) gives it.
+    /// Returns the next point, equal to that of [`Segment::point`](crate::Segment::point), and advances. Requires
+    /// that a point is left.
     #[inline(always)]
     pub fn next(&mut self) -> Vertex
         requires { self.old.at < len_of self.old.ends }

@@ -1,4 +1,4 @@
--- A walk that meets no address again has no more nodes than there are addresses, and ends.
+-- A walk that visits no address twice has no more nodes than there are addresses, and ends.
 use Rattle.std.proofs.Common.{◌≡◌, ℕ, zero, suc, ◌+◌, ◌*◌, ◌^◌, ◌<◌, ◌≤◌, List, [], ◌∷◌, length, map, Bool, true, false}
 use Rattle.std.proofs.Common.{eqb, refl, sym, ap, arith, inl, inr, true≢false}
 use Rattle.std.specs.Prelude.{None, ◌==◌}
@@ -14,7 +14,7 @@ use Rattle.ot_clear_dma.specs.Ram.{place_of, cut}
 use Rattle.list_dma.specs.Node.{is_end, next_of}
 use Rattle.list_dma.specs.Walk.{chain, repeat_after}
 
--- the addresses of m places
+-- the addresses of the first m words
 addresses : ℕ → List ℕ
 addresses m = map (λ place. place * 4) (range_with_len 0 m)
 
@@ -36,7 +36,7 @@ none_passes p (x ∷ xs) none = elim (cases_Bool (p x)) [
   | inr miss ↦ (miss, none_passes p xs (rw miss at none))
 ]
 
--- the nodes seen and those to come are among the addresses
+-- the nodes in `seen` and the remaining ones are among the addresses
 bounded : (ram addresses seen : List ℕ) (address n : ℕ) → ((a : ℕ) → list_any (◌==◌ (cut a)) addresses ≡ true)
     → ((q : ℕ) → list_any (◌==◌ q) seen ≡ true → list_any (◌==◌ q) addresses ≡ true)
     → IsDistinct eqb seen → repeat_after seen (chain ram address n) ≡ None
@@ -76,7 +76,7 @@ walk_ends ram start n m none large =
     (λ q is. absurd (true≢false (sym is))) tt none in
     omega (arith, b, length-addresses m)
 
--- a chain that has ended stays as it is
+-- a chain that has ended does not change with a larger limit
 pub chain_stays : (ram : List ℕ) (start n m : ℕ) → length (chain ram start n) < n → n ≤ m → chain ram start m
     ≡ chain ram start n
 unfolding chain

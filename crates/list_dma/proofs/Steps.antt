@@ -1,4 +1,4 @@
--- A walk on its way.
+-- A walk in progress.
 use Rattle.std.proofs.Common.{◌≡◌, ◌≢◌, ℕ, suc, ◌+◌, ◌-◌, ◌*◌, ◌<◌, List, ◌∷◌, length, true, false, sym, ◌∙◌, ap, arith}
 use Rattle.std.proofs.Common.{inl, inr, ne_eqb}
 use Rattle.std.specs.Prelude.{Option, Some, None, ◌==◌}
@@ -9,7 +9,7 @@ use Rattle.list_dma.specs.Node.{is_end, next_of}
 use Rattle.list_dma.specs.Walk.{chain, repeat_after}
 use Rattle.list_dma.specs.Marks.{is_marked}
 
--- so many nodes are still to come from an address on; those before are the marked ones
+-- at most `left` nodes of the walk remain from `address` on; the nodes before are the marked ones
 pub record IsOnWay (ram marks : List ℕ) (address left count : ℕ) (loops : Option ℕ) (long : ℕ) : Type 0 where
   pub seen : List ℕ
   pub marked : (place : ℕ) → is_marked marks place ≡ list_any (◌==◌ (place * 4)) seen

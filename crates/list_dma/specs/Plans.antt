@@ -1,4 +1,4 @@
--- What a start of DMA channel 2 is to move (psx-spx, "DMA Channels": MADR, BCR and CHCR).
+-- What a start of DMA channel 2 transfers (psx-spx, "DMA Channels": MADR, BCR and CHCR).
 use Rattle.std.specs.Prelude.{◌≡◌, ◌≤◌, ℕ, ◌*◌, ◌/◌, ◌%◌, ◌^◌, ◌==◌, ◌&&◌, nat_lt}
 use Rattle.std.specs.Prelude.{Bool, not, Option, Some, None, Result, Ok, Err, if◌then◌else◌}
 use Rattle.std.specs.Int.{bit_at}
@@ -13,7 +13,7 @@ use Rattle.list_dma.specs.declared.run.Run.TheVariants as run
 
 -- ---- the fields of the registers
 
--- a count of 16 bits, where 0 stands for 10000h
+-- a count of 16 bits; 0 means 10000h
 abbrev pub count_of : ℕ → ℕ
 count_of field = if field == 0 then 2 ^ 16 else field
 
@@ -24,7 +24,8 @@ block_of bcr = count_of (bcr % 2 ^ 16)
 abbrev pub blocks_of : (bcr : ℕ) → ℕ
 blocks_of bcr = count_of (bcr / 2 ^ 16 % 2 ^ 16)
 
--- CHCR bit 24 starts, bits 9 and 10 are the mode, bit 1 is 1 for backward, bit 0 is 1 for a transfer from RAM
+-- CHCR: bit 24 starts; bits 9 and 10 are the mode; bit 1 is 1 for decreasing addresses; bit 0 is 1 for a transfer
+-- from RAM
 abbrev pub is_started : (chcr : ℕ) → Bool
 is_started chcr = bit_at chcr 24 == 1
 
@@ -39,12 +40,13 @@ is_to_ram chcr = bit_at chcr 0 == 0
 
 -- ---- plans
 
--- a plan of so many words, if they are no more than memory has (our own rule)
+-- a plan of n words, if memory has that many (our own rule)
 abbrev pub words_of : (n chcr : ℕ) → Result Plan DmaFault
 words_of n chcr =
     if nat_lt memory_words n then Err (fault.TooLong n) else Ok (plan.Words n (is_back chcr) (is_to_ram chcr))
 
--- the plan of a start: without bit 24 nothing; mode 0 one block; mode 1 blocks; mode 2 a list, from RAM alone; no other
+-- the plan of a start: nothing without bit 24; one block in mode 0; blocks in mode 1; a list in mode 2, only from
+-- RAM; anything else is refused
 abbrev pub plan_of : (bcr chcr : ℕ) → Result Plan DmaFault
 plan_of bcr chcr =
     if not (is_started chcr) then Ok plan.Idle else
@@ -52,38 +54,38 @@ plan_of bcr chcr =
     if mode_of chcr == 1 then words_of (block_of bcr * blocks_of bcr) chcr else
     if (mode_of chcr == 2) && not (is_to_ram chcr) then Ok plan.List else Err fault.Bad
 
--- a plan of words has no more of them than memory
+-- a plan of words has at least one and no more than memory
 abbrev pub IsPlan : Plan → Type 0
 IsPlan plan.Idle = Unit {0}
 IsPlan (plan.Words n back to_ram) = (1 ≤ n) × (n ≤ memory_words)
 IsPlan plan.List = Unit {0}
 
--- ---- runs, which go on turn by turn (our own rule)
+-- ---- runs: transfers in turns (our own rule)
 
--- the words of one turn: all in mode 0, and else a block
+-- the number of words of one turn: all in mode 0, else one block
 abbrev pub turn_of : (bcr chcr n : ℕ) → ℕ
 turn_of bcr chcr n = if mode_of chcr == 0 then n else block_of bcr
 
--- a list from an address on, which may have no node
+-- the run of the list at an address, which may have no node
 abbrev pub list_run_of : (address : ℕ) → Run
 list_run_of address = if is_end address then run.Idle else run.List (cut address)
 
--- the run of a plan, if it is one to run
+-- the run of a plan, or none for `Idle`
 abbrev pub run_of : (madr bcr chcr : ℕ) → Plan → Option Run
 run_of madr bcr chcr plan.Idle = None
 run_of madr bcr chcr (plan.Words n back to_ram) = Some (run.Words (cut madr) n (turn_of bcr chcr n) back to_ram)
 run_of madr bcr chcr plan.List = Some (list_run_of madr)
 
--- the run that a start begins, if it begins one, or why it is refused
+-- the run that a start begins, if any, or the reason why it is refused
 abbrev pub begun : (madr bcr chcr : ℕ) → Result Plan DmaFault → Result (Option Run) DmaFault
 begun madr bcr chcr (Ok planned) = Ok (run_of madr bcr chcr planned)
 begun madr bcr chcr (Err why) = Err why
 
--- an address of a word in memory
+-- the address of a word in memory: a multiple of 4 below 200000h
 abbrev pub IsWordAddress : ℕ → Type 0
 IsWordAddress address = address ≡ cut address
 
--- what holds of every run that a start begins
+-- the properties of every run that a start begins
 abbrev pub IsRun : Run → Type 0
 IsRun run.Idle = Unit {0}
 IsRun (run.Words at left block back to_ram) =

@@ -1,9 +1,9 @@
-//! DMA channel 2: linked lists in main memory, and what a start of the channel is to move.
+//! DMA channel 2: linked lists in main memory, and what a start of the channel transfers.
 //!
-//! A linked list begins at an address. A node is the word there, its header: in bits 0 to 23 the next
-//! address, and in bits 24 to 31 how many words follow the header. An address with bit 23 ends the list.
-//! The walk of a list is the list of its node addresses; a list whose walk meets an address again never
-//! ends, and `Walk::check` refuses exactly such a list.
+//! A linked list begins at an address. A node is the word at that address, its header: bits 0 to 23 are the next
+//! address, and bits 24 to 31 the number of words that follow the header. An address with bit 23 ends the list. The
+//! walk of a list is the sequence of its node addresses. A list whose walk visits an address twice never ends.
+//! `Walk::check` refuses exactly these lists.
 #![tactic(auto)]
 
 pub mod laws;

@@ -6,8 +6,8 @@ ghost use Rattle.list_dma.specs.Plans.{IsWordAddress};
 use ot_clear_dma::{Ram, cut};
 use px_num::{bit, bits};
 
-/// The node that follows a node, or none where the address in its header has bit 23. The address of the
-/// node counts bytes, and only its bits of 1FFFFCh matter.
+/// Returns the address of the node that follows `node`, or `None` if the address in its header has bit 23. `node` is
+/// a byte address; only its bits of 1FFFFCh matter.
 pub fn next_node(ram: &Ram, node: u32) -> Option<u32>
     ensures value { result ≡ node_of (next_of ram.now node) }
     ensures whole { IfSome result IsWordAddress }
@@ -16,7 +16,8 @@ pub fn next_node(ram: &Ram, node: u32) -> Option<u32>
     node_at(next_address(ram, node))
 }
 
-/// The node that an address names, or none where it has bit 23 and ends a list.
+/// Returns the node at `address`, a multiple of 4 below 200000h. Returns `None` if bit 23 of `address` is 1, which
+/// ends a list.
 pub fn node_at(address: u32) -> Option<u32>
     ensures value { result ≡ node_of address }
     ensures whole { IfSome result IsWordAddress }
@@ -29,14 +30,14 @@ pub fn node_at(address: u32) -> Option<u32>
     }
 }
 
-// Whether an address ends a list.
+// Returns whether an address ends a list: bit 23 is 1.
 pub(crate) fn ends(address: u32) -> bool
     ensures { result ≡ is_end address }
 {
     bit(address, 23)
 }
 
-// The address in the header of a node.
+// Returns the address in the header of a node.
 pub(crate) fn next_address(ram: &Ram, node: u32) -> u32
     ensures { result ≡ next_of ram.now node }
 {

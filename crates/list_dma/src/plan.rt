@@ -1,22 +1,22 @@
-// What a start of the channel is to move.
+// What a start of DMA channel 2 transfers.
 ghost use Rattle.std.specs.Prelude.{◌≡◌, ◌<◌, ◌≤◌, ◌^◌, IfOk};
 ghost use Rattle.list_dma.specs.Plans.{plan_of, words_of, mode_of, block_of, blocks_of, count_of, IsPlan};
 
 use ot_clear_dma::MEMORY_WORDS;
 use px_num::{bit, bits};
 
-/// What a start of the channel is to move.
+/// What a start of the channel transfers.
 #[derive(Clone, Copy, Debug, PartialEq, Eq)]
 pub enum Plan {
-    /// Nothing: CHCR bit 24 is 0.
+    /// Nothing, because CHCR bit 24 is 0.
     Idle,
-    /// Words one after another.
+    /// Words at consecutive addresses, up or down.
     Words {
-        /// How many, 1 to 524,288.
+        /// The number of words, 1 to 524,288.
         n: u32,
-        /// Whether each address is 4 before the last one, in place of 4 behind it.
+        /// Whether addresses decrease by 4 instead of increasing by 4.
         back: bool,
-        /// Whether they go from the GPU to memory.
+        /// Whether words are transferred from the GPU to memory.
         to_ram: bool,
     },
     /// A linked list.
@@ -26,17 +26,19 @@ pub enum Plan {
 /// Why a start is refused.
 #[derive(Clone, Copy, Debug, PartialEq, Eq)]
 pub enum DmaFault {
-    /// There is no such mode: mode 3, or a list to memory.
+    /// The mode is not supported: mode 3, or a list to memory.
     Bad,
-    /// There are more words than memory has.
+    /// The transfer has more words than memory.
     TooLong {
-        /// How many, up to 4,294,967,296.
+        /// The number of words, 524,289 to 4,294,967,296.
         words: u64,
     },
 }
 
-/// The plan of a start of DMA channel 2 with these values of BCR and CHCR. Mode 0 moves BCR's low half of
-/// words, mode 1 the product of its halves, where a half of 0 stands for 10000h; mode 2 is a list.
+/// Returns what a start of DMA channel 2 with these values of BCR and CHCR transfers. `Idle` if CHCR bit 24 is 0.
+///
+/// Mode 0 transfers as many words as BCR's low half, mode 1 the product of both halves; a half of 0 means 10000h.
+/// Mode 2 transfers a list. Refuses mode 3 and a list to memory (`Bad`), and more than 524,288 words (`TooLong`).
 pub fn block_plan(bcr: u32, chcr: u32) -> Result<Plan, DmaFault>
     ensures value { result ≡ plan_of bcr chcr }
     ensures bounds { IfOk result IsPlan }
@@ -53,14 +55,14 @@ pub fn block_plan(bcr: u32, chcr: u32) -> Result<Plan, DmaFault>
     }
 }
 
-// The mode of a transfer.
+// Returns the mode of a transfer: CHCR bits 9 and 10.
 pub(crate) fn mode(chcr: u32) -> u32
     ensures { result ≡ mode_of chcr }
 {
     bits(chcr, 9, 2)
 }
 
-// How many words a block has.
+// Returns the number of words of a block, 1 to 65,536.
 pub(crate) fn block_words(bcr: u32) -> u32
     ensures value { result ≡ block_of bcr }
     ensures some { 1 ≤ result }
@@ -69,7 +71,7 @@ pub(crate) fn block_words(bcr: u32) -> u32
     count(bits(bcr, 0, 16))
 }
 
-// How many blocks there are.
+// Returns the number of blocks, 1 to 65,536.
 fn block_count(bcr: u32) -> u32
     ensures value { result ≡ blocks_of bcr }
     ensures some { 1 ≤ result }
@@ -78,7 +80,7 @@ fn block_count(bcr: u32) -> u32
     count(bits(bcr, 16, 16))
 }
 
-// A count of 16 bits, where 0 stands for 10000h.
+// Returns a count of 16 bits: `field`, or 10000h if it is 0.
 fn count(field: u32) -> u32
     requires { field < 2 ^ 16 }
     ensures value { result ≡ count_of field }
@@ -88,7 +90,7 @@ fn count(field: u32) -> u32
     if field == 0 { 0x1_0000 } else { field }
 }
 
-// A plan of so many words.
+// Returns a plan of `n` words. Refuses more words than memory has.
 fn plan_words(n: u64, chcr: u32) -> Result<Plan, DmaFault>
     requires { 1 ≤ n }
     ensures value { result ≡ words_of n chcr }

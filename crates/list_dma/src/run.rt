@@ -1,4 +1,4 @@
-// A transfer that goes on turn by turn.
+// A transfer that runs in turns.
 ghost use Rattle.std.specs.Prelude.{◌≡◌, ◌≤◌, IfOk, IfSome};
 ghost use Rattle.list_dma.specs.Plans.{plan_of, turn_of, list_run_of, begun, IsRun};
 
@@ -6,33 +6,34 @@ use crate::node::ends;
 use crate::plan::{DmaFault, Plan, block_plan, block_words, mode};
 use ot_clear_dma::cut;
 
-/// What is left of a transfer that goes on turn by turn.
+/// The rest of a transfer that runs in turns.
 #[derive(Clone, Copy, Debug, PartialEq, Eq)]
 pub enum Run {
-    /// Nothing.
+    /// Nothing is left to transfer. A list without a node starts so.
     Idle,
-    /// Words one after another.
+    /// Words at consecutive addresses, up or down.
     Words {
-        /// The address of the first word that is left, a multiple of 4 below 200000h.
+        /// The address of the next word, a multiple of 4 below 200000h.
         at: u32,
-        /// How many words are left, 1 to 524,288.
+        /// The number of words left, 1 to 524,288.
         left: u32,
-        /// How many words one turn moves, 1 to 65,536.
+        /// The number of words of one turn, 1 to 65,536.
         block: u32,
-        /// Whether each address is 4 before the last one, in place of 4 behind it.
+        /// Whether addresses decrease by 4 instead of increasing by 4.
         back: bool,
-        /// Whether they go from the GPU to memory.
+        /// Whether words are transferred from the GPU to memory.
         to_ram: bool,
     },
     /// A linked list.
     List {
-        /// The address of its next node, a multiple of 4 below 200000h.
+        /// The address of the next node, a multiple of 4 below 200000h.
         node: u32,
     },
 }
 
-/// The transfer that a start of DMA channel 2 with these values of MADR, BCR and CHCR begins: none where
-/// CHCR bit 24 is 0, and refused as `block_plan` is. A list whose MADR has bit 23 has nothing to move.
+/// Returns the transfer that a start of DMA channel 2 with these values of MADR, BCR and CHCR begins. Returns `None`
+/// if CHCR bit 24 is 0. Refuses what [`block_plan`] refuses. If bit 23 of a list's MADR is 1, the transfer is
+/// `Run::Idle`.
 pub fn start_run(madr: u32, bcr: u32, chcr: u32) -> Result<Option<Run>, DmaFault>
     ensures value { result ≡ begun madr bcr chcr (plan_of bcr chcr) }
     ensures bounds { IfOk result (λ run. IfSome run IsRun) }
@@ -50,7 +51,7 @@ pub fn start_run(madr: u32, bcr: u32, chcr: u32) -> Result<Option<Run>, DmaFault
     }
 }
 
-// The run of a list from an address on.
+// Returns the transfer of the list at an address.
 fn list_run(address: u32) -> Run
     ensures value { result ≡ list_run_of address }
     ensures bounds { IsRun result }
@@ -62,7 +63,7 @@ fn list_run(address: u32) -> Run
     }
 }
 
-// How many words one turn moves.
+// Returns the number of words of one turn: all `n` in mode 0, else one block.
 fn turn(bcr: u32, chcr: u32, n: u32) -> u32
     requires { 1 ≤ n }
     ensures value { result ≡ turn_of bcr chcr n }

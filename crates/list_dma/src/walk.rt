@@ -10,17 +10,18 @@ use px_num::OutOfMemory;
 use std::alloc::Global;
 use std::marker::Model;
 
-/// One more than memory has addresses: a walk of so many nodes has met one again.
+/// One more than the number of word addresses of memory. A walk of this many nodes has visited one twice.
 pub const WALK_LIMIT: u32 = MEMORY_WORDS + 1;
 
-/// The walk of a list meets an address again, so that the list never ends.
+/// The error for a list that never ends: its walk visits an address twice.
 #[derive(Clone, Copy, Debug, PartialEq, Eq)]
 pub struct ListLoop {
-    /// The first address that it meets again.
+    /// The first address that is visited a second time.
     pub node: u32,
 }
 
-/// Room for walks: one bit for each of the 524,288 addresses. It holds nothing that contracts see.
+/// The set of addresses visited by a list walk: a bitmap with one bit per word of main memory (524,288). It has no
+/// value in contracts.
 #[derive(Drop)]
 pub struct Walk {
     marks: Marks,
@@ -35,15 +36,15 @@ impl Model for Walk {
 }
 
 impl Walk {
-    /// Room for walks. Refused where memory of the machine runs out.
+    /// Allocates an empty set. Returns `OutOfMemory` if the allocation fails.
     pub fn new(alloc: Global) -> Result<Self, OutOfMemory> {
         let marks = Marks::new(alloc)?;
         Ok(Walk { marks })
     }
 
-    /// Walks along a list before any of it is fed. It gives the number of its nodes, which is 0 where
-    /// `start` ends the list; a list that meets an address again is refused, with the first address that
-    /// it meets again. It takes no memory, and no check depends on those before it.
+    /// Walks a list before any of its words is transferred. `start` is its first address. Returns the number of
+    /// nodes, 0 if `start` ends the list. If the walk visits an address twice, returns `ListLoop` with the first such
+    /// address. Allocates nothing. The result does not depend on earlier checks.
     #[tactic(auto, unfolding(crate::specs::Walk::loop_of, crate::specs::Walk::walk_of))]
     pub fn check(&mut self, ram: &Ram, start: u32) -> Result<u32, ListLoop>
         ensures { MatchResult result
@@ -55,8 +56,8 @@ impl Walk {
     }
 }
 
-// How many nodes the walk has, up to a limit, or the first address that it meets again. The limit is a
-// variable here, so that no proof computes the walk.
+// Returns the number of nodes of the walk, at most `limit`, or the first address that is visited twice. `limit` is a
+// parameter, not a constant, so that no proof computes the walk.
 #[tactic(auto, unfolding(crate::specs::Walk::chain))]
 fn count_nodes(marks: &mut Marks, ram: &Ram, start: u32, limit: u32) -> Result<u32, ListLoop>
     requires { (place : ℕ) → is_marked marks.old place ≡ false }

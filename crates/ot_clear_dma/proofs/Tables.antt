@@ -1,4 +1,4 @@
--- What the words of a cleared table hold.
+-- The values of the words of a cleared table.
 use Rattle.std.proofs.Common.{◌≡◌, ◌≢◌, ◌<◌, ◌≤◌, ℕ, zero, suc, List, ◌+◌, ◌-◌, ◌^◌, length, get_or, refl, sym, ◌∙◌}
 use Rattle.std.proofs.Common.{arith, inl, inr}
 use Rattle.std.proofs.lemmas.List.{length-set, get_or-set_same, get_or-set_other}
@@ -7,17 +7,17 @@ use Rattle.px_num.specs.Fold.{each_below}
 use Rattle.ot_clear_dma.specs.Ram.{place_of, cut, word_at}
 use Rattle.ot_clear_dma.specs.Table.{below, end_mark, linked, cleared_table, IsOrderingTable}
 
--- no two words of a table lie at one place
+-- no two words of a table have the same index
 apart : (first i k : ℕ) → i < k → k < 65536 → place_of (below first i) ≢ place_of (below first k)
 unfolding below
 apart first i k less most = λ same. omega (arith, less, most, same)
 
--- one word further down is one step of 4
+-- one word further down is 4 bytes further down
 next : (first k : ℕ) → k < 65536 → below (below first k) 1 ≡ below first (k + 1)
 unfolding below
 next first k most = omega (arith, most)
 
--- an address that is none of the table's names another place
+-- an address that is none of the table's has another index
 elsewhere : (address first k : ℕ) → cut address ≢ below first k → place_of address ≢ place_of (below first k)
 unfolding below
 elsewhere address first k other = λ same. other (omega (arith, same))
@@ -27,7 +27,7 @@ kept_long ram first zero = refl
 kept_long ram first (suc n) = length-set (each_below (linked first) n ram) (place_of (below first n)) _
     ∙ kept_long ram first n
 
--- memory after the first n words
+-- memory after the first n words are written
 record IsLinked (old new : List ℕ) (first n : ℕ) : Type 0 where
   links : (k : ℕ) → k < n → word_at new (below first k) ≡ below (below first k) 1
   others : (place : ℕ) → ((k : ℕ) → k < n → place ≢ place_of (below first k)) → get_or new place 0 ≡ get_or old place 0

@@ -1,7 +1,7 @@
 //! Main memory, and the clearing of an ordering table by DMA channel 6.
 //!
-//! Memory has 524,288 words. An address counts bytes; of its bits those of 1FFFFCh alone matter, so that
-//! it always names a whole word, and memory repeats every 200000h.
+//! Memory has 524,288 words. An address counts bytes. Only its bits of 1FFFFCh matter, so it always names an aligned
+//! word, and memory repeats every 200000h.
 #![tactic(auto)]
 
 mod ram;

@@ -9,13 +9,13 @@ use px_num::{OutOfMemory, bits};
 use std::alloc::{AllocError, Global};
 use std::marker::Model;
 
-/// How many words there are.
+/// The number of words of main memory.
 pub const MEMORY_WORDS: u32 = 524_288;
 
-/// What the last word of a table holds: an address that ends a list.
+/// The value of the last word of a table: an address that ends a list.
 const END: u32 = 0xff_ffff;
 
-/// Main memory. Contracts see it as the list of its words.
+/// Main memory. In contracts it is the list of its words.
 #[derive(Drop)]
 pub struct Ram {
     words: Vec<u32>,
@@ -29,7 +29,7 @@ impl Model for Ram {
     ghost invariant = { λ ram. vec_len ram.words ≡ memory_words };
 }
 
-// The length is a variable here, so that no proof computes the list.
+// Returns `n` words of 0. The length is a parameter, not a constant, so that no proof computes the list.
 #[tactic(auto, unfolding(px_num::specs::Zeros::zeros))]
 fn zeroed(alloc: Global, n: usize) -> Result<Vec<u32>, AllocError>
     ensures items { IfOk result (λ v. v.items ≡ zeros n) }
@@ -38,7 +38,7 @@ fn zeroed(alloc: Global, n: usize) -> Result<Vec<u32>, AllocError>
     vec![in alloc; 0u32; n]
 }
 
-// The place of the word that an address names.
+// Returns the index of the word at an address.
 fn place(address: u32) -> usize
     ensures value { result ≡ place_of address }
     ensures in_memory { result < memory_words }
@@ -46,7 +46,7 @@ fn place(address: u32) -> usize
     bits(address, 2, 19) as usize
 }
 
-/// The address of the word that an address names: a multiple of 4 below 200000h.
+/// Returns the bitwise AND of `address` and 1FFFFCh: the address of the word, a multiple of 4 below 200000h.
 pub fn cut(address: u32) -> u32
     ensures value { result ≡ cut address }
     ensures place { result / 4 ≡ place_of address }
@@ -55,7 +55,7 @@ pub fn cut(address: u32) -> u32
     bits(address, 2, 19) * 4
 }
 
-// The address of the word that lies k words below.
+// Returns the address `k` words below `address`. It wraps at the start of memory.
 #[tactic(auto, unfolding(crate::specs::Table::below))]
 fn below(address: u32, k: u32) -> u32
     requires { k ≤ 65536 }
@@ -64,7 +64,7 @@ fn below(address: u32, k: u32) -> u32
     cut(address.wrapping_sub(4 * k))
 }
 
-// Each number of a slice has 32 bits.
+// States that each number of a slice has 32 bits. Does nothing.
 fn fit(words: &[u32])
     ensures { (k : ℕ) → slice_index words.now k < 2 ^ 32 }
 {
@@ -72,7 +72,7 @@ fn fit(words: &[u32])
 }
 
 impl Ram {
-    /// Memory in which every word is 0. Refused where memory of the machine runs out.
+    /// Returns memory with every word 0. Returns `OutOfMemory` if the allocation fails.
     #[tactic(auto, unfolding(crate::specs::Ram::first_memory))]
     pub fn new(alloc: Global) -> Result<Self, OutOfMemory>
         ensures words { IfOk result (λ ram. ram ≡ first_memory) }
@@ -82,7 +82,7 @@ impl Ram {
         Ok(Ram { words })
     }
 
-    /// The word at an address.
+    /// Returns the word at `address`.
     pub fn get(&self, address: u32) -> u32
         ensures value { result ≡ word_at self.now address }
         ensures long { length self.now ≡ memory_words }
@@ -90,14 +90,14 @@ impl Ram {
         self.words[place(address)]
     }
 
-    /// Each word has 32 bits. It does nothing.
+    /// States, for proofs, that each word has 32 bits. Does nothing.
     pub fn words_fit(&self)
         ensures { (address : ℕ) → word_at self.now address < 2 ^ 32 }
     {
         fit(self.words.as_slice());
     }
 
-    /// Writes the word at an address. All other words stay.
+    /// Writes `word` at `address`. Other words keep their values.
     pub fn put(&mut self, address: u32, word: u32)
         ensures words { self.new ≡ set self.old address word }
         ensures long { length self.new ≡ memory_words }
@@ -105,8 +105,9 @@ impl Ram {
         self.words[place(address)] = word;
     }
 
-    /// Writes a table of `n` words, as DMA channel 6 does: the first at `madr` and each later one 4 before
-    /// it. Each word holds the address of the one before it in memory, and the last one 00FFFFFFh.
+    /// Writes an ordering table of `n` words, 1 to 65,536, as DMA channel 6 does. The first word is at `madr`, and
+    /// each later one 4 bytes below the one before. Each word is the address 4 bytes below its own; the last word is
+    /// 00FFFFFFh. Addresses wrap at the start of memory.
     #[tactic(auto, unfolding(crate::specs::Table::cleared_table))]
     pub fn clear_table(&mut self, madr: u32, n: u32)
         requires some { 1 ≤ n }

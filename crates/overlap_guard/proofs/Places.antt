@@ -1,11 +1,11 @@
--- Pairs of lanes against places.
+-- Hazards by pairs of lanes and by positions.
 use Rattle.std.proofs.Common.{ℕ, ◌+◌, ◌-◌, ◌%◌, ◌<◌, ◌≤◌, ◌≡◌, ◌↔◌, ◌⊎◌, inl, inr, refl, sym, ◌∙◌, add-zero, arith}
 use Rattle.std.proofs.lemmas.Bool.{cases_lt}
 use Rattle.px_num.specs.declared.shape.Cell.{Cell}
 use Rattle.px_num.specs.declared.shape.Strip.{Strip}
 use Rattle.overlap_guard.specs.Hazard.{HasCopyHazard, HasStripHazard}
 
--- the target lies to the right of the source in one row, less than n cells away
+-- the target is to the right of the source in one row, less than n cells away
 abbrev pub Trails : Cell → Cell → ℕ → Type 0
 Trails source target n = (source.y ≡ target.y) × (source.x < target.x) × (target.x < source.x + n)
 
@@ -20,13 +20,13 @@ iff_trans f g = (λ p. g.0 (f.0 p), λ r. f.1 (g.1 r))
 
 -- ---- strips, which wrap, and chunks, which do not
 
--- the chunk's first cell is one of the strip's, whose first column is given, or the strip's first cell is one of the
--- chunk's
+-- the strip, whose first column is given, contains the chunk's first cell, or the chunk contains the strip's first
+-- cell
 abbrev pub MeetsStrip : ℕ → Strip → Cell → ℕ → Type 0
 MeetsStrip first strip target n = (strip.y ≡ target.y) × (0 < strip.n)
     × (((target.x + 1024 - first) % 1024 < strip.n) ⊎ ((target.x ≤ first) × (first < target.x + n)))
 
--- columns in common, none of them the chunk's first: then the strip begins within the chunk
+-- if they have columns in common, but not the chunk's first, the strip starts within the chunk
 beyond : (s first count to n k i : ℕ) → first ≡ s % 1024 → to + n ≤ 1024 → k < count → i < n → (s + k) % 1024 ≡ to + i
     → count ≤ (to + 1024 - first) % 1024 → (to ≤ first) × (first < to + n)
 beyond s first count to n k i a b c d e f = (omega arith, omega arith)

@@ -1,4 +1,4 @@
--- Lanes that read what an earlier lane writes.
+-- Lanes that read a cell that an earlier lane writes.
 use Rattle.std.proofs.Common.{◌≡◌, ◌<◌, ◌≤◌, ℕ, zero, suc, ◌+◌, ◌-◌, ◌%◌, ◌^◌, ◌↔◌, Bool, true, false, cond, eqb, ltb}
 use Rattle.std.proofs.Common.{IsTrue, not, List, length, get_or, refl, arith}
 use Rattle.std.proofs.lemmas.Bool.Decides.{nat_tests}
@@ -8,7 +8,7 @@ use Rattle.px_num.specs.declared.shape.Cell.{Cell}
 use Rattle.overlap_guard.specs.Hazard.{HasTexelHazard, WrittenBefore, cell_at}
 use Rattle.overlap_guard.specs.Lanes.{lane_cells}
 
--- a fact that has a test, and one that holds exactly where the first does not
+-- if a proposition has a test, so has one that is true exactly if the first is false
 pub found_unless : {P Q : Type 0} (none : Bool) → IsTrue none ↔ Q → (test : Bool) → IsTrue test ↔ P → (P → Q → ⊥)
     → ((P → ⊥) → Q) → IsTrue (not none) ↔ P
 found_unless true is test tests apart other = (λ h. absurd cc, λ p. absurd (apart p (is.0 refl)))
@@ -21,7 +21,7 @@ found_unless false is false tests apart other = (
 near : (j x y z : ℕ) → x < 1024 → z < 1024 → j < 16 → (0 < j - (x + (2 ^ 16 - z)) % 2 ^ 16) ↔ ((z ≤ x) × (x < z + j))
 near j x y z low_x low_z lane = (λ h. (omega arith, omega arith), λ h. omega (arith, h.0, h.1))
 
--- the lane of a cell that reads what an earlier one writes
+-- the lane of a cell that an earlier lane writes is above 0
 pub late_lane : (j n x y to_x to_y : ℕ) → x < 1024 → to_x < 1024 → j < 16
     → (0 < cond (eqb y to_y) (cond (ltb j n) j 0) 0 - (x + (2 ^ 16 - to_x)) % 2 ^ 16)
     ↔ ((j < n) × (y ≡ to_y) × (to_x ≤ x) × (x < to_x + j))
@@ -38,7 +38,7 @@ late_lane j n x y to_x to_y low_x low_to lane = by_tests (eqb y to_y) (ltb j n) 
     by_tests true false is_row is_few = (λ h. absurd (omega arith), λ h. absurd (grind (arith, nat_tests, h.0)))
     by_tests false few is_row is_few = (λ h. absurd (omega arith), λ h. absurd (grind (arith, nat_tests, h.1)))
 
--- the lanes above 0 are those of texels that an earlier lane writes
+-- the lanes above 0 are those whose texel an earlier lane writes
 abbrev pub AreLate : (xs ys : List ℕ) → ℕ → Cell → List ℕ → Type 0
 AreLate xs ys n to late = (j : ℕ) → j < 16 → (0 < get_or late j 0)
     ↔ ((j < n) × (get_or ys j 0 ≡ to.y) × (to.x ≤ get_or xs j 0) × (get_or xs j 0 < to.x + j))
@@ -55,7 +55,7 @@ module _ (xs ys : List ℕ) (n : ℕ) (to : Cell) (late : List ℕ) (few : n ≤
   unfolding lane_cells
   count = length-map-range_with_len (lane_cell xs ys) 0 n
 
-  -- a cell that reads what an earlier one writes has a lane that says so
+  -- a texel that an earlier lane writes has a lane above 0
   pub late_found : HasTexelHazard (lane_cells xs ys n) to → EachLane (λ j. get_or late j 0 ≡ 0) → ⊥
   late_found h none =
       let j : ℕ = h.0 in
@@ -71,7 +71,7 @@ module _ (xs ys : List ℕ) (n : ℕ) (to : Cell) (late : List ℕ) (few : n ≤
       ) in
       omega (arith, some, none j lane)
 
-  -- without such a cell all lanes are 0
+  -- without such a texel all lanes are 0
   pub none_late : (HasTexelHazard (lane_cells xs ys n) to → ⊥) → EachLane (λ j. get_or late j 0 ≡ 0)
   none_late none j lane = zero_unless (get_or late j 0) (λ some.
       let is = (lanes j lane).0 some in

@@ -1,4 +1,4 @@
--- The tests that compute, against the facts.
+-- The computable tests agree with the propositions.
 use Rattle.std.proofs.Common.{ℕ, ◌+◌, ◌<◌, ◌≡◌, ◌↔◌, ◌⊎◌, inl, inr, List, length, Option, None, Some, Bool, true, false}
 use Rattle.std.proofs.Common.{IsTrue, ◌&&◌, ◌||◌, eqb, refl, sym, ap, ◌∙◌, zero-add, arith}
 use Rattle.std.specs.Option.{MatchOption}
@@ -29,14 +29,14 @@ some_iff P n p each = (to, from)
         list_any_at p (range_with_len 0 n) h.0 0 (omega (arith, h.1))
         (ap p (get_or-range_with_len 0 n h.0 0 h.1 ∙ zero-add h.0) ∙ (each h.0).1 h.2)
 
--- two tests of one fact
+-- two tests of one proposition are equal
 pub same_bool : {P : Type 0} (a b : Bool) → IsTrue a ↔ P → IsTrue b ↔ P → a ≡ b
 same_bool true true f g = refl
 same_bool true false f g = sym (g.1 (f.0 refl))
 same_bool false true f g = f.1 (g.0 refl)
 same_bool false false f g = refl
 
--- a test of a fact that does not hold
+-- a test of a false proposition is false
 pub false_of : {P : Type 0} (b : Bool) → IsTrue b ↔ P → (P → ⊥) → b ≡ false
 false_of true f none = absurd (none (f.0 refl))
 false_of false f none = refl

@@ -1,5 +1,6 @@
--- When a chunk reads what it writes itself (our own rule: every pixel reads video memory as it is then).
--- A chunk is n cells of one row, and its lane i writes the cell i columns to the right of the target.
+-- When a chunk reads a cell that it writes itself (our own rule: every pixel reads video memory as it is when that
+-- pixel is drawn).
+-- A chunk is n cells of one row. Its lane i writes the cell i columns to the right of the target.
 use Rattle.std.specs.Prelude.{ℕ, ◌+◌, ◌%◌, ◌<◌, ◌≡◌, ◌⊎◌, List, length, slice_index_or, Option, None, Some, Bool, false}
 use Rattle.std.specs.Prelude.{◌&&◌, ◌||◌, ◌==◌}
 use Rattle.std.specs.Option.{MatchOption}
@@ -15,11 +16,11 @@ Writes target i x y = (x ≡ target.x + i) × (y ≡ target.y)
 abbrev pub WrittenBefore : Cell → ℕ → Cell → Type 0
 WrittenBefore target j cell = (i : ℕ) × (i < j) × Writes target i cell.x cell.y
 
--- the cell some columns to the right, in a row that is not left
+-- the cell j columns to the right, in the same row
 abbrev pub cell_right : Cell → ℕ → Cell
 cell_right cell j = record { x = cell.x + j; y = cell.y }
 
--- copies: some lane reads the source cell that an earlier lane writes
+-- copies: some lane reads a source cell that an earlier lane writes
 abbrev pub HasCopyHazard : Cell → Cell → ℕ → Type 0
 HasCopyHazard source target n = (j : ℕ) × (j < n) × WrittenBefore target j (cell_right source j)
 
@@ -27,7 +28,7 @@ HasCopyHazard source target n = (j : ℕ) × (j < n) × WrittenBefore target j (
 abbrev pub cell_at : List Cell → ℕ → Cell
 cell_at cells j = slice_index_or cells j (record { x = 0; y = 0 })
 
--- some lane reads as its texel the cell that an earlier lane writes
+-- some lane reads as its texel a cell that an earlier lane writes
 abbrev pub HasTexelHazard : List Cell → Cell → Type 0
 HasTexelHazard texels target = (j : ℕ) × (j < length texels) × WrittenBefore target j (cell_at texels j)
 
@@ -39,12 +40,12 @@ strip_cell strip k = record { x = (strip.x + k) % 1024; y = strip.y }
 abbrev pub HasStripHazard : Strip → Cell → ℕ → Type 0
 HasStripHazard strip target n = (k : ℕ) × (k < strip.n) × WrittenBefore target n (strip_cell strip k)
 
--- textured chunks: a texel or, where there is one, the palette
+-- textured chunks: a hazard of a texel or, if there is a palette, of the palette
 abbrev pub HasTextureHazard : List Cell → Option Strip → Cell → ℕ → Type 0
 HasTextureHazard texels clut target n = HasTexelHazard texels target ⊎ MatchOption clut ⊥
     (λ strip. HasStripHazard strip target n)
 
--- ---- the same as tests that compute, pair by pair
+-- ---- the same as computable tests, pair by pair
 
 abbrev pub some_below : ℕ → (ℕ → Bool) → Bool
 some_below n test = list_any test (range_with_len 0 n)

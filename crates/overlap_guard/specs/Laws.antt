@@ -7,10 +7,10 @@ use Rattle.overlap_guard.specs.Hazard.{has_copy_hazard}
 abbrev pub OtherRowLaw : Type 0
 OtherRowLaw = (source target : Cell) (n : ℕ) → target.y ≢ source.y → has_copy_hazard source target n ≡ false
 
--- the target is the source, or it begins to the left of it
+-- the target starts in the source's column or to its left
 abbrev pub LeftwardLaw : Type 0
 LeftwardLaw = (source target : Cell) (n : ℕ) → target.x ≤ source.x → has_copy_hazard source target n ≡ false
 
--- the target begins behind the last cell that is read
+-- the target starts to the right of the last cell that is read
 abbrev pub FarLaw : Type 0
 FarLaw = (source target : Cell) (n : ℕ) → source.x + n ≤ target.x → has_copy_hazard source target n ≡ false

@@ -1,14 +1,14 @@
-// Copies.
+// Copy hazards.
 ghost use Rattle.std.specs.Prelude.{◌≡◌, ◌+◌, ◌≤◌, ◌<◌, ◌↔◌, IsTrue};
 ghost use Rattle.overlap_guard.specs.Hazard.{HasCopyHazard, has_copy_hazard};
 
 use px_num::Cell;
 
-/// Whether some lane of a copied chunk reads a cell that an earlier lane writes.
+/// Returns whether some lane of a copied chunk reads a cell that an earlier lane writes.
 ///
-/// Lane `i` of the `n` lanes reads the cell `i` columns to the right of `from`, and writes the cell `i`
-/// columns to the right of `to`. Neither row may be left. It is so exactly where the target begins in
-/// the source's row, to the right of the source and less than `n` columns away.
+/// The chunk has `n` lanes, 1 to 16. Lane `i` reads the cell `i` columns to the right of `from` and writes the cell
+/// `i` columns to the right of `to`. Neither may pass the end of its row. The result is true exactly if `to` is in
+/// the row of `from`, to its right and less than `n` columns away.
 pub fn copy_hazard(from: Cell, to: Cell, n: u8) -> bool
     requires count { (1 ≤ n) × (n ≤ 16) }
     requires source { from.x + n ≤ 1024 }
@@ -19,7 +19,7 @@ pub fn copy_hazard(from: Cell, to: Cell, n: u8) -> bool
     trails(from, to, n)
 }
 
-// Whether the target lies to the right of the source in one row, less than n cells away.
+// Returns whether the target is to the right of the source in one row, less than `n` cells away.
 fn trails(from: Cell, to: Cell, n: u8) -> bool
     ensures { IsTrue result ↔ ((from.y ≡ to.y) × (from.x < to.x) × (to.x < from.x + n)) }
 {

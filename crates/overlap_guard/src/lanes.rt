@@ -1,4 +1,4 @@
-// Textured chunks by the places of their texels, all lanes at once.
+// Texture hazards from sixteen texel positions.
 ghost use Rattle.std.specs.Prelude.{◌≡◌, ◌+◌, ◌≤◌, ◌<◌, ◌↔◌, IsTrue, length, slice_index};
 ghost use Rattle.px_num.specs.Lanes.{EachLane};
 ghost use Rattle.overlap_guard.specs.Hazard.{HasTexelHazard, HasTextureHazard, has_texture_hazard};
@@ -9,12 +9,13 @@ use px_num::lanes::{are_zero, ramp, splat, sub_or_zero, where_below, where_equal
 use px_num::{Cell, Strip};
 use std::simd::prelude::*;
 
-/// Whether some lane of a textured chunk reads as its texel a cell that an earlier lane writes, or some
-/// lane writes a cell of the palette.
+/// Returns whether a textured chunk has a hazard: some lane reads as its texel a cell that an earlier lane writes, or
+/// some lane writes a cell of the palette.
 ///
-/// Lane `i` of the `n` lanes reads the cell in column `xs[i]` and row `ys[i]`, and writes the cell `i` columns
-/// to the right of `to`, whose row may not be left. It answers as [`texture_hazard`](crate::texture_hazard)
-/// does of these cells.
+/// The chunk has `n` lanes, 1 to 16. Lane `i` reads the cell in column `xs[i]` and row `ys[i]`. It writes the cell
+/// `i` columns to the right of `to`; `to.x + n` is at most 1024. All sixteen columns `xs` must be below 1024. Without
+/// a palette `clut` only texels count. The result equals that of [`texture_hazard`](crate::texture_hazard) for these
+/// cells.
 #[inline(always)]
 pub fn lanes_hazard(xs: u16x16, ys: u16x16, clut: Option<Strip>, to: Cell, n: u8) -> bool
     requires count { (1 ≤ n) × (n ≤ 16) }
@@ -40,7 +41,7 @@ fn lanes_read_written(xs: u16x16, ys: u16x16, clut: Option<Strip>, to: Cell, n: 
     texel || palette
 }
 
-// Whether some lane reads as its texel a cell that an earlier lane writes.
+// Returns whether some lane reads as its texel a cell that an earlier lane writes.
 #[inline(always)]
 fn any_read_after_write(xs: u16x16, ys: u16x16, to: Cell, n: u8) -> bool
     requires few { n ≤ 16 }
@@ -52,8 +53,8 @@ fn any_read_after_write(xs: u16x16, ys: u16x16, to: Cell, n: u8) -> bool
     !are_zero(read_after_write_lanes(xs, ys, to, n))
 }
 
-// Of n lanes whose texels are at these places, those that read what an earlier one writes are above 0, and all others
-// are 0.
+// Returns a lane above 0 if it is among the first `n` and its texel is a cell that an earlier lane writes. All other
+// lanes are 0.
 #[inline(always)]
 fn read_after_write_lanes(xs: u16x16, ys: u16x16, to: Cell, n: u8) -> u16x16
     requires long { (length xs ≡ 16) × (length ys ≡ 16) }

@@ -1,10 +1,11 @@
-//! Whether a chunk reads what it writes itself.
+//! Hazards: whether a chunk reads a cell that it writes itself.
 //!
-//! A chunk is 1 to 16 cells of one row that are drawn or copied from left to right; its lane `i` writes
-//! the cell `i` columns to the right of its first cell. Every pixel reads video memory as it is then
-//! (our own rule), so the lanes of a chunk may be read all together, before the first of them is
-//! written, exactly where no lane reads what an earlier lane writes. The tests of this crate say when
-//! that is so. They compare places and look at no cell.
+//! A chunk is 1 to 16 cells of one row that are drawn or copied from left to right. Its lane `i` writes the cell `i`
+//! columns to the right of its first cell. Every pixel reads video memory as it is when that pixel is drawn (our own
+//! rule). So all lanes may be read before the first is written exactly if no lane reads a cell that an earlier lane
+//! writes.
+//!
+//! The functions of this crate decide this. They compare positions and access no video memory.
 #![tactic(auto)]
 
 mod copy;

@@ -1,4 +1,4 @@
-// Textures and their palettes.
+// Texture and palette hazards.
 ghost use Rattle.std.specs.Prelude.{◌≡◌, ◌+◌, ◌-◌, ◌%◌, ◌≤◌, ◌<◌, ◌⊎◌, ◌↔◌, IsTrue, length};
 ghost use Rattle.std.specs.Option.{MatchOption};
 ghost use Rattle.overlap_guard.specs.Hazard.{WrittenBefore, HasTexelHazard, HasStripHazard, HasTextureHazard};
@@ -6,13 +6,13 @@ ghost use Rattle.overlap_guard.specs.Hazard.{has_texture_hazard};
 
 use px_num::{Cell, Strip};
 
-/// Whether some lane of a textured chunk reads as its texel a cell that an earlier lane writes, or some
-/// lane writes a cell of the palette.
+/// Returns whether a textured chunk has a hazard: some lane reads as its texel a cell that an earlier lane writes, or
+/// some lane writes a cell of the palette.
 ///
-/// Lane `i` of the `n` lanes reads `texels[i]`, and writes the cell `i` columns to the right of `to`,
-/// whose row may not be left. The palette is a strip, which wraps at 1024 columns; without one there are
-/// texels alone. It goes from texel to texel: what is drawn asks [`lanes_hazard`](crate::lanes_hazard), which
-/// is proved to answer as this one does.
+/// The chunk has `n` lanes, 1 to 16. Lane `i` reads `texels[i]` and writes the cell `i` columns to the right of `to`;
+/// `to.x + n` is at most 1024. `clut` is the palette, a strip that wraps at 1024 columns; without a palette only
+/// texels count. This function tests one texel after another. The drawing code calls
+/// [`lanes_hazard`](crate::lanes_hazard), which is proved to return the same.
 pub fn texture_hazard(texels: &[Cell], clut: Option<Strip>, to: Cell, n: u8) -> bool
     requires count { (1 ≤ n) × (n ≤ 16) }
     requires members { length texels.now ≡ n }
@@ -33,7 +33,7 @@ fn reads_written(texels: &[Cell], clut: Option<Strip>, to: Cell, n: u8) -> bool
     texel || palette
 }
 
-// Whether some lane reads as its texel a cell that an earlier lane writes.
+// Returns whether some lane reads as its texel a cell that an earlier lane writes.
 fn texel_hazard(texels: &[Cell], to: Cell) -> bool
     ensures { IsTrue result ↔ HasTexelHazard texels.now to }
 {
@@ -45,7 +45,7 @@ fn texel_hazard(texels: &[Cell], to: Cell) -> bool
     false
 }
 
-// Whether a lane before lane j writes a cell.
+// Returns whether a lane before lane `j` writes `cell`.
 fn written_before(cell: Cell, to: Cell, j: usize) -> bool
     ensures { IsTrue result ↔ WrittenBefore to j cell }
 {
@@ -58,7 +58,8 @@ fn lies_before(cell: Cell, to: Cell, j: usize) -> bool
     cell.y == to.y && to.x <= cell.x && ((cell.x - to.x) as usize) < j
 }
 
-/// Whether some lane of a chunk writes a cell of a palette: what `texture_hazard` says of the palette alone.
+/// Returns whether some of the `n` lanes of a chunk from `to` on writes a cell of the palette. Returns false without
+/// a palette. `n` is at least 1, and `to.x + n` at most 1024.
 pub fn clut_hazard(clut: Option<Strip>, to: Cell, n: u8) -> bool
     requires some { 1 ≤ n }
     requires target { to.x + n ≤ 1024 }
@@ -78,8 +79,8 @@ fn strip_hazard(strip: Strip, to: Cell, n: u8) -> bool
     strip_meets(strip.x % 1024, strip, to, n)
 }
 
-// Whether the chunk's first cell is one of the strip's, which begins in this column, or the strip's first cell one of
-// the chunk's.
+// Returns whether the strip contains the chunk's first cell, or the chunk contains the strip's first cell. `first` is
+// the column of the strip's first cell.
 fn strip_meets(first: u16, strip: Strip, to: Cell, n: u8) -> bool
     requires first { first < 1024 }
     requires target { to.x + n ≤ 1024 }

@@ -39,7 +39,7 @@ put_same k p a b m now same alike = record {
   ];
 }
 
--- a pixel that is the same where the cell is this one
+-- a plot of two pixels that are equal if they are for this cell
 pub draw_same : (mask k p : ℕ) (a b : Option ℕ) (m now : List ℕ) → SameAt k m now → (p ≡ k → a ≡ b)
     → SameAt k (draw_at mask p a m) (draw_at mask p b now)
 draw_same mask k p a b m now same alike = put_same k p _ _ m now same (λ here.
@@ -57,7 +57,7 @@ pub set_same : (k p color : ℕ) (m now : List ℕ) → SameAt k m now
     → SameAt k (put_at p (Some color) m) (put_at p (Some color) now)
 set_same k p color m now same = put_same k p (Some color) (Some color) m now same (λ here. refl)
 
--- a pixel hangs on no cell but its own
+-- a pixel depends on no cell but its own
 abbrev pub IsLocal : (Cell → List ℕ → Option ℕ) → Type 0
 IsLocal shade = (cell : Cell) (m now : List ℕ) → at m cell.x cell.y ≡ at now cell.x cell.y
     → shade cell m ≡ shade cell now
@@ -77,7 +77,7 @@ pub each_same : (holds : List ℕ → List ℕ → Type 0) (step : ℕ → List 
 each_same holds step zero m now h keeps = h
 each_same holds step (suc n) m now h keeps = keeps n _ _ (each_same holds step n m now h keeps)
 
--- a step among them makes it so
+-- one of the steps establishes a relation of two states, and the later steps keep it
 pub each_makes : (loose holds : List ℕ → List ℕ → Type 0) (step : ℕ → List ℕ → List ℕ) (n j : ℕ) (m now : List ℕ)
     → j < n → loose m now
     → ((i : ℕ) (a b : List ℕ) → loose a b → loose (step i a) (step i b))
@@ -91,7 +91,7 @@ each_makes loose holds step (suc n) j m now lt h more makes keeps = elim (cases_
   | inr not ↦ keeps n _ _ (each_makes loose holds step n j m now (omega (arith, lt, not)) h more makes keeps)
 ]
 
--- ---- a state and what became of it
+-- ---- a state before and after changes
 
 pub but_same : (among : ℕ → Type 0) (m : List ℕ) → AgreeBut among m m
 but_same among m = record { count = refl; others = λ k. inr refl }
@@ -128,7 +128,7 @@ put_but among p w m in_it = record {
   ];
 }
 
--- it holds of the number of each cell
+-- a fact is true of the index of each cell
 abbrev pub EachCell : (ℕ → Type 0) → List Cell → Type 0
 EachCell among [] = Unit {0}
 EachCell among (cell ∷ cells) = among (1024 * cell.y + cell.x) × EachCell among cells

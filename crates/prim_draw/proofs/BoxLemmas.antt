@@ -1,4 +1,4 @@
--- Boxes that were cut by the drawing area.
+-- Boxes that are clipped to the drawing area.
 use Rattle.std.proofs.Common.{◌≡◌, ℕ, ℤ, ◌≤ℤ◌, int_lt, Bool, true, false, cond, ◌||◌, Option, None, Some, IfSome, refl}
 use Rattle.std.proofs.Common.{arith}
 use Rattle.std.proofs.lemmas.Int.{ints, clamps}
@@ -61,13 +61,13 @@ lies_in b area =
     let c = overlap b area in
     some_in b c (int_lt c.x2 c.x1) (int_lt c.y2 c.y1) (overlap_lies b area)
 
--- what two facts of a value that may be none give together
+-- two facts about an optional value, combined
 pub if_both : {A : Type 0} {P Q R : A → Type 0} (value : Option A) → ((a : A) → P a → Q a → R a) → IfSome value P
     → IfSome value Q → IfSome value R
 if_both None f p q = tt
 if_both (Some a) f p q = f a p q
 
--- a part of a rectangle, by its block
+-- a part of a rectangle, as a clip rectangle
 pub part_of : (e : Extent) (height : ℕ) (b : Box2) → IsExtent e → IsOnScreen height b → LiesIn (cells_box e) b
     → IsPartOf e (clip_rect_of b)
 unfolding clip_rect_of

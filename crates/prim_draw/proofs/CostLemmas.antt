@@ -1,4 +1,4 @@
--- What is drawn costs at most four steps for each cell of its boxes.
+-- Drawing costs at most four steps per cell of its boxes.
 use Rattle.std.proofs.Common.{◌≡◌, ◌≤◌, ℕ, zero, suc, ◌+◌, ◌*◌, List, [], ◌∷◌, length, Option, None, Some, Bool, true}
 use Rattle.std.proofs.Common.{false, cond, arith}
 use Rattle.std.specs.List.{filter}

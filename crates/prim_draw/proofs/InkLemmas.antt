@@ -52,7 +52,7 @@ inked_next s point_color k m now new p so_far at put =
     ∙ ap (λ cells. set cells (cell_of (point_of s k)).x (cell_of (point_of s k)).y point_color) so_far
     ∙ sym (each_below-next (λ i cells. set cells (cell_of (point_of s i)).x (cell_of (point_of s i)).y point_color) k m)
 
--- ---- points between two that lie in a box
+-- ---- points between two points that are in a box
 
 is_within : (low high z : ℤ) → low ≤ℤ z → z ≤ℤ high → is_between low high z ≡ true
 is_within low high z from to = grind (arith, ints)

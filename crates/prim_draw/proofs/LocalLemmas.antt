@@ -1,4 +1,4 @@
--- What is drawn without texture, in two states of video memory.
+-- Drawing without texture, in two states of video memory.
 use Rattle.std.proofs.Common.{◌≡◌, ℕ, List, [], ◌∷◌, Option, None, Some, Bool, true, false, cond, refl}
 use Rattle.std.specs.List.{filter}
 use Rattle.px_num.specs.declared.shape.Box2.{Box2}

@@ -1,4 +1,4 @@
--- Points that lie in a box.
+-- Points in a box.
 use Rattle.std.proofs.Common.{◌≡◌, ℕ, ℤ, ◌≤ℤ◌, List, Bool, true, false, ◌&&◌, refl, arith}
 use Rattle.std.specs.Int.Signed.{le_z}
 use Rattle.std.proofs.lemmas.Int.{ints}
@@ -36,13 +36,13 @@ pub rows_of : (b : Box2) (p : Vertex) → is_in b p ≡ true → LiesBetween b.y
 unfolding is_in
 rows_of b p e = between b.y1 b.y2 p.y (two (is_between b.x1 b.x2 p.x) (is_between b.y1 b.y2 p.y) e).1
 
--- one cell of one colour
+-- the cost of one cell of one colour
 pub point_cost : (x y color : ℕ) (brush : Brush)
     → span_cost (record { x = x; y = y; n = 1; paint = Flat color; brush = brush }) ≡ 2
 unfolding span_cost has_hazard
 point_cost x y color brush = refl
 
--- ---- cells that are not looked at
+-- ---- cells that are not read
 
 pub opaque_pixel : (brush : Brush) (color : ℕ) (shift : ℤ) (back : ℕ) → brush.semi ≡ false
     → flat_pixel brush color shift 0 ≡ flat_pixel brush color shift back

@@ -26,7 +26,7 @@ use Rattle.prim_draw.specs.declared.rectangles.RectangleSetup.{RectangleSetup}
 use Rattle.prim_draw.specs.declared.clipped_rectangle.ClippedRectangle.{ClippedRectangle}
 use Rattle.span_lanes.specs.declared.span.Run.{Run}
 
--- the column of a texel, some cells on from some cells on
+-- the column of a texel, counted in two steps along a row
 row_u-more : (u : ℕ) (flip : Bool) (a i : ℕ) → a + i ≤ 1023 → row_u (row_u u flip a) flip i
     ≡ row_u (row_u u flip (a + i)) flip 0
 unfolding row_u
@@ -49,14 +49,14 @@ free : (rectangle_setup : RectangleSetup) (texture : Option Texture) (column row
 free rectangle_setup None column row x y n = tt
 free rectangle_setup (Some texture) column row x y n = tt
 
--- the row of a texel, some rows down from some rows down
+-- the row of a texel, counted in two steps down
 row_further : (v : ℕ) (falls : Bool) (rows j : ℕ) → rows + j ≤ 1023
     → row_u (row_u v falls rows) falls j ≡ row_u v falls (rows + j)
 unfolding row_u
 row_further v true rows j le = omega arith
 row_further v false rows j le = omega arith
 
--- the row of the page whose texels a row of a block has
+-- the row of the page whose texels are in a row of a clip rectangle
 pub texel_row_is : (rectangle : ClippedRectangle) (first : FirstRow) (y v : ℕ) → IsPartOf rectangle.extent.now rectangle.clip_rect.now
     → IsFirstRow rectangle first → rectangle.clip_rect.now.y ≤ y → y < rectangle.clip_rect.now.y + rectangle.clip_rect.now.h
     → v ≡ row_u first.v first.falls (y - first.y)
@@ -74,7 +74,7 @@ texel_row_is rectangle first y v part is above below v_is =
     ∙ row_further rectangle.rectangle_setup.now.v rectangle.rectangle_setup.now.flip_y before (y - b.y) near
     ∙ ap (row_u rectangle.rectangle_setup.now.v rectangle.rectangle_setup.now.flip_y) row
 
--- without a texture it is one colour
+-- without a texture the pattern is one colour
 pub flat_pattern : (rectangle : ClippedRectangle) → rectangle.rectangle_setup.now.texture ≡ None
     → rectangle_pattern rectangle ≡ uniform (record { paint = Flat rectangle.rectangle_setup.now.color; brush = rectangle.rectangle_setup.now.brush })
 unfolding rectangle_paint
@@ -106,7 +106,7 @@ module _ (rectangle : ClippedRectangle) (y : ℕ) (run : Run) (whole : IsWholeRo
             rw on (along rectangle_setup rectangle_setup.texture rectangle_setup.brush column row i (run.x + i) y m near);
       }
 
-  -- its texels are those of the pattern
+  -- the texels of a row are those of the pattern
   texels_are : (t : Texture) (v : ℕ) → rectangle.rectangle_setup.now.texture ≡ Some t
       → v ≡ row_u rectangle.rectangle_setup.now.v rectangle.rectangle_setup.now.flip_y (unsigned_abs (pos y -ℤ rectangle.extent.now.top))
       → texel_span (texels_of rectangle t) y v ≡ run_span (rectangle_pattern rectangle) y run

@@ -25,7 +25,8 @@ use Rattle.prim_draw.specs.Triangles.{draws, row_inside, run_cells}
 use Rattle.span_lanes.specs.declared.span.Run.{Run}
 use Rattle.span_lanes.specs.declared.clip_rect.ClipRect.{ClipRect}
 
--- a test holds in a row from one column on, of so many cells, and nowhere else in its first w cells
+-- a test is true for `count` cells of a row from column `first` on, and false for the other of the row's w cells from
+-- x on
 pub record HoldsInRun (test : Cell → Bool) (x y w first count : ℕ) : Type 0 where
   pub below : (i : ℕ) → i < w → x + i < first → test (cell_in_row x y i) ≡ false
   pub here : (i : ℕ) → i < w → first ≤ x + i → x + i < first + count → test (cell_in_row x y i) ≡ true
@@ -74,7 +75,7 @@ module _ (test : Cell → Bool) (x y w first count : ℕ) (left : x ≤ first) (
       rw (none, row_none x y, row_none first y) refl
   all (suc n) le = one n (omega arith) (all n (omega arith))
 
-  -- the cells where the test holds
+  -- the cells for which the test is true
   pub filtered : first + count ≤ x + w → filter test (row_cells x y w) ≡ row_cells first y count
   unfolding part
   filtered right = let whole : min (x + w - first) count ≡ count = omega (arith, left) in all w (omega arith)
@@ -145,7 +146,7 @@ none_found t b y some none =
 
 -- ---- a run that is drawn as a span
 
--- cells that stand side by side cost what their span does
+-- consecutive cells cost what their span costs
 pub span_of_row : (p : Pattern) (x y n : ℕ) → 1 ≤ n
     → side_by_side p (row_cells x y n) ≡ span_cost (span_from p (record { x = x; y = y }) n)
 unfolding row_cells
@@ -158,7 +159,7 @@ span_of_row p x y (suc n) some =
     (length (map (cell_in_row x y) (range_with_len 0 (suc n)))))) here
     ∙ ap (λ (k : ℕ). span_cost (span_from p (record { x = x; y = y }) k)) count
 
--- its span is its cells
+-- drawing the span of a run draws its cells
 span_pixels : (height : ℕ) (p : Pattern) (y : ℕ) (run : Run) (m : List ℕ) → CanDraw height p y run
     → drawn_cells (shade_at (run_span p y run)) p.brush.mask (row_cells run.x y run.n) m
     ≡ painted_cells p (row_cells run.x y run.n) m
@@ -206,7 +207,7 @@ rows_next f count found before now after is so_far run = record {
       run.cost));
 }
 
--- the cells of a block that a triangle draws, by rows
+-- the cells of a clip rectangle that a triangle draws, row by row
 pub inside_rows : (t : Corners) (b : ClipRect) (h : ℕ)
     → cells_down (row_inside t b) b.y h ≡ filter (draws t) (cells_in_rows b.x b.y b.w h)
 inside_rows t b zero = refl

@@ -17,7 +17,7 @@ use Rattle.prim_draw.specs.declared.triangle_rows.TriangleRows.{TriangleRows}
 use Rattle.span_lanes.specs.declared.span.Run.{Run}
 use Rattle.prim_draw.proofs.WalkLemmas.{box_is}
 
--- a run of a triangle can be drawn with its coat
+-- a run of a triangle can be drawn with its draw state
 can_draw : (height : ℕ) (state : DrawState) (t : Corners) (clip : Box2) (y : ℕ) (run : Run) → CanDrawRows height state t clip
     → IsRun t y run → LiesInClip (clip_rect_of clip) y run → CanDraw height (uniform state) y run
 can_draw height state t clip y run can is lies =

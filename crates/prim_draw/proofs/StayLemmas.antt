@@ -1,4 +1,4 @@
--- Drawing stays in its area.
+-- Drawing changes no cell outside its area.
 use Rattle.std.proofs.Common.{◌≡◌, ◌<◌, ◌≤◌, ◌+◌, ◌*◌, ◌/◌, ◌%◌, ◌||◌, ℕ, zero, suc, ℤ, pos, ◌≤ℤ◌, int_lt}
 use Rattle.std.proofs.Common.{unsigned_abs, List, [], ◌∷◌, ◌++◌, Option, None, Some, IfSome, Bool, true, false, cond}
 use Rattle.std.proofs.Common.{refl, sym, subst, arith}
@@ -73,7 +73,7 @@ each_rows among x y w (suc h) all =
     (each_rows among x y w h (λ i j lt lu. all i j lt (omega (arith, lu))))
     (each_row among x (y + h) w (λ i lt. all i h lt (omega arith)))
 
--- a box with a cell, between the left and the right side of video memory
+-- a box with at least one cell, between the left and the right edge of video memory
 pub record IsSeen (b : Box2) : Type 0 where
   pub left : pos 0 ≤ℤ b.x1
   pub across : b.x1 ≤ℤ b.x2
@@ -102,7 +102,7 @@ each_in_box : (b : Box2) → IsSeen b → EachCell (Has b) (cells_of (clip_rect_
 each_in_box b seen = each_rows (Has b) (clip_rect_of b).x (clip_rect_of b).y (clip_rect_of b).w (clip_rect_of b).h
     (λ i j lt lu. in_block b i j seen lt lu)
 
--- ---- boxes that are cut by the drawing area
+-- ---- boxes that are clipped to the drawing area
 
 not_less : (a b : ℤ) → false ≡ int_lt b a → a ≤ℤ b
 not_less a b e = grind (arith, ints)
@@ -226,7 +226,7 @@ in_some : (b : Box2) (k : ℕ) → Has b k → IsIn (some_box b) k
 unfolding some_box
 in_some b k h = in_by b k _ _ refl refl h
 
--- an area between the left and the right side of video memory
+-- an area between the left and the right edge of video memory
 record IsWide (b : Box2) : Type 0 where
   left : pos 0 ≤ℤ b.x1
   right : b.x2 ≤ℤ pos 1023

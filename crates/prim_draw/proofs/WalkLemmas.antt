@@ -11,7 +11,7 @@ use Rattle.prim_draw.specs.Boxes.{clip_rect_of, row_box, IsOnScreen, LiesIn}
 use Rattle.prim_draw.specs.Walks.{IsRowOf, StandAt}
 use Rattle.prim_draw.specs.declared.triangle_rows.TriangleRows.{TriangleRows}
 
--- a block of video memory and its box
+-- a clip rectangle of video memory and its box
 pub record IsBoxOf (clip : Box2) (x y w h : ℕ) : Type 0 where
   pub left : pos x ≡ clip.x1
   pub right : pos (x + w - 1) ≡ clip.x2

@@ -1,4 +1,4 @@
--- The area of a packet (our own rule): the box of the cells that it may change, whose corners aren't wrapped.
+-- The area of a packet (our own rule): the box of the cells that it may change, with corners that are not wrapped.
 use Rattle.std.specs.Prelude.{ℕ, ◌+◌, ◌-◌, ◌==◌, ◌||◌, pos, Option, None, Some, if◌then◌else◌}
 use Rattle.std.specs.Int.{int_min, int_max}
 use Rattle.px_num.specs.declared.shape.Box2.{Box2}
@@ -11,13 +11,13 @@ use Rattle.prim_draw.specs.Rectangles.{extent_at, rectangle_box}
 use Rattle.prim_draw.specs.Triangles.{lower_half, triangle_box, upper_half}
 use Rattle.prim_draw.specs.declared.polygon.Polygon.{Polygon}
 
--- w by h cells from (x, y) on; none where there is no cell
+-- the box of w by h cells from (x, y) on, or none without a cell
 unfoldable pub moved_box : (x y w h : ℕ) → Option Box2
 moved_box x y w h =
     if (w == 0) || (h == 0) then None else
     Some (record { x1 = pos x; y1 = pos y; x2 = pos (x + w - 1); y2 = pos (y + h - 1) })
 
--- the smallest box that has two others
+-- the smallest box that contains two others
 unfoldable pub hull : Box2 → Box2 → Box2
 hull a b = record {
   x1 = int_min a.x1 b.x1;
@@ -32,7 +32,7 @@ joined None b = b
 joined (Some a) None = Some a
 joined (Some a) (Some b) = Some (hull a b)
 
--- of a quad the boxes of both triangles
+-- the box of a triangle; for a quad, the hull of the boxes of both triangles
 unfoldable pub polygon_area : Registers → Polygon → Option Box2
 polygon_area r p =
     if p.four then joined (triangle_box r (upper_half r p)) (triangle_box r (lower_half r p))

@@ -1,4 +1,4 @@
--- Rectangles in a block of their cells.
+-- Rectangles, clipped to the cells that are drawn.
 use Rattle.std.specs.Prelude.{ℕ, ◌+◌, ◌<◌, ◌≤◌, ◌≡◌, pos, ◌-ℤ◌, unsigned_abs, List, Some}
 use Rattle.span_lanes.specs.Cells.{Stage}
 use Rattle.span_lanes.specs.ClipRect.{IsClipRect}
@@ -15,7 +15,7 @@ use Rattle.prim_draw.specs.declared.texel_rows_drawer.FirstRow.{FirstRow}
 use Rattle.prim_draw.specs.declared.clipped_rectangle.ClippedRectangle.{ClippedRectangle}
 use Rattle.span_lanes.specs.declared.span.Run.{Run}
 
--- the cells of a block of a rectangle can be drawn in video memory of a height
+-- the cells of a rectangle in its clip rectangle can be drawn in video memory of this height
 pub record CanDrawRectangle (height : ℕ) (rectangle : ClippedRectangle) : Type 0 where
   pub rectangle_setup : IsRectangleSetup height rectangle.rectangle_setup.now
   pub extent : IsExtent rectangle.extent.now
@@ -23,18 +23,18 @@ pub record CanDrawRectangle (height : ℕ) (rectangle : ClippedRectangle) : Type
   pub small : IsClipRect 1024 rectangle.clip_rect.now
   pub clip_rect : IsClipRect height rectangle.clip_rect.now
 
--- what they are drawn with
+-- the pattern of such a rectangle
 abbrev pub rectangle_pattern : ClippedRectangle → Pattern
 rectangle_pattern rectangle = pattern_of rectangle.rectangle_setup.now rectangle.extent.now
 
--- all cells of row y of a block
+-- the run has all cells of row y of a clip rectangle
 pub record IsWholeRow (b : ClipRect) (y : ℕ) (run : Run) : Type 0 where
   pub first : run.x ≡ b.x
   pub count : run.n ≡ b.w
   pub top : b.y ≤ y
   pub bottom : y < b.y + b.h
 
--- their texels, row by row
+-- the texels of such a rectangle, row by row
 abbrev pub texels_of : ClippedRectangle → Texture → TexelRows
 texels_of rectangle texture =
     let rectangle_setup = rectangle.rectangle_setup.now in
@@ -47,26 +47,26 @@ texels_of rectangle texture =
       clip_rect = rectangle.clip_rect.now;
     }
 
--- these are
+-- rows are the texels of such a rectangle
 pub record AreTexelsOf (rectangle : ClippedRectangle) (rows : TexelRows) : Type 0 where
   pub texture : rectangle.rectangle_setup.now.texture ≡ Some rows.texture
   pub are : rows ≡ texels_of rectangle rows.texture
 
--- the row of the page whose texels the first row of the block has
+-- the row of the page whose texels are in the first row of the clip rectangle
 pub record IsFirstRow (rectangle : ClippedRectangle) (first : FirstRow) : Type 0 where
   pub y : first.y ≡ rectangle.clip_rect.now.y
   pub v : first.v ≡ row_u rectangle.rectangle_setup.now.v rectangle.rectangle_setup.now.flip_y
       (unsigned_abs (pos rectangle.clip_rect.now.y -ℤ rectangle.extent.now.top))
   pub falls : first.falls ≡ rectangle.rectangle_setup.now.flip_y
 
--- a pen is ready for them in video memory
+-- a rows drawer is ready for such a rectangle in video memory
 pub record IsReadyFor (rectangle : ClippedRectangle) (first : FirstRow) (rows_held : RowsDrawerView) (m : List ℕ) : Type 0 where
   pub part : IsPartOf rectangle.extent.now rectangle.clip_rect.now
   pub first_is : IsFirstRow rectangle first
   pub rows : AreTexelsOf rectangle rows_held.rows
   pub fresh : AreRowsFresh rows_held m
 
--- ---- what was drawn, with video memory and the steps before and after
+-- ---- what was drawn; stages are video memory and the number of steps before and after
 
 abbrev pub DrawsRectangle : ClippedRectangle → (before after : Stage) → Type 0
 DrawsRectangle rectangle before after =

@@ -1,4 +1,4 @@
--- Triangles with a texture in the block of their box (our own rule).
+-- Textured triangles, clipped to their box (our own rule).
 use Rattle.std.specs.Prelude.{ℕ, ◌≡◌}
 use Rattle.px_num.specs.declared.shape.Box2.{Box2}
 use Rattle.edge_walk.specs.Extent.{bounding_box}
@@ -13,7 +13,7 @@ use Rattle.prim_draw.specs.Walks.{DrawsTriangle}
 use Rattle.prim_draw.specs.declared.clipped_triangle.ClippedTriangle.{ClippedTriangle}
 use Rattle.span_lanes.specs.declared.span.DrawState.{DrawState}
 
--- the rows of a triangle in a box can be drawn with a coat, in video memory of a height
+-- the rows of a triangle in a box can be drawn with a draw state, in video memory of this height
 pub record CanDrawRows (height : ℕ) (state : DrawState) (t : Corners) (clip : Box2) : Type 0 where
   pub is_coat : IsDrawState height state
   pub fits : FitsTriangle t state.paint
@@ -21,22 +21,22 @@ pub record CanDrawRows (height : ℕ) (state : DrawState) (t : Corners) (clip : 
   pub in_height : IsOnScreen height clip
   pub inside : LiesIn (bounding_box t) clip
 
--- what rows in a block are drawn with
+-- the draw state of a clipped triangle
 abbrev pub state_of : ClippedTriangle → DrawState
 state_of found = record { paint = TexturedTri found.own.now found.texture.now; brush = found.brush.now }
 
--- these are the rows of a triangle in a box, and they may be drawn so in its block
+-- `found` is the triangle t in the box with this draw state, and its row method suits its clip rectangle
 pub record IsClippedTriangle (state : DrawState) (t : Corners) (clip : Box2) (found : ClippedTriangle) : Type 0 where
   pub is_tri : found.tri.now ≡ t
   pub is_clip : found.clip.now ≡ clip
   pub is_coat : state_of found ≡ state
   pub serves : SuitsMethod found.own.now found.texture.now found.brush.now (clip_rect_of clip) found.method
 
--- they can be drawn in this way
+-- a clipped triangle can be drawn with this row method
 pub record CanDrawClipped (height : ℕ) (found : ClippedTriangle) (method : RowMethod) : Type 0 where
   pub rows : CanDrawRows height (state_of found) found.tri.now found.clip.now
   pub serves : SuitsMethod found.own.now found.texture.now found.brush.now (clip_rect_of found.clip.now) method
 
--- they were drawn, with video memory and the steps before and after
+-- a clipped triangle was drawn; stages are video memory and the number of steps before and after
 abbrev pub DrawsClipped : ClippedTriangle → (before after : Stage) → Type 0
 DrawsClipped found before after = DrawsTriangle (state_of found) found.tri.now found.clip.now before after

@@ -1,4 +1,4 @@
--- How many store steps a packet may take (our own rule).
+-- The store steps that a packet may take (our own rule).
 use Rattle.std.specs.Prelude.{ℕ, zero, suc, ◌+◌, ◌*◌, List, [], ◌∷◌, length, Option, None, Some, if◌then◌else◌}
 use Rattle.px_num.specs.declared.shape.Box2.{Box2}
 use Rattle.px_num.specs.declared.shape.Cell.{Cell}
@@ -21,12 +21,12 @@ use Rattle.prim_draw.specs.declared.rectangles.Extent.{Extent}
 use Rattle.prim_draw.specs.declared.rectangles.RectangleSetup.{RectangleSetup}
 use Rattle.prim_draw.specs.declared.style.Style.{Style}
 
--- the drawn cells of a row, which stand side by side, as one span
+-- the cost of the drawn cells of a row, which are consecutive, as one span
 abbrev pub side_by_side : Pattern → List Cell → ℕ
 side_by_side p [] = 0
 side_by_side p (cell ∷ cells) = span_cost (span_from p cell (length (cell ∷ cells)))
 
--- those of so many rows, from a top one on
+-- the cost of `count` rows, from row `top` on
 abbrev pub cost_down : Pattern → (row : ℕ → List Cell) → (top count : ℕ) → ℕ
 cost_down p row top zero = 0
 cost_down p row top (suc count) = cost_down p row top count + side_by_side p (row (top + count))
@@ -55,7 +55,7 @@ rectangle_cost r rectangle_setup e = all_cost rectangle_setup e (rectangle_box r
 
 -- ---- segments
 
--- 2 for each point in the drawing area
+-- the cost of the first points of a segment: 2 for each in the drawing area
 abbrev pub points_cost : Box2 → Ends → ℕ → ℕ
 points_cost area s zero = 0
 points_cost area s (suc n) = points_cost area s n + (if is_in area (point_of s n) then 2 else 0)
@@ -65,7 +65,7 @@ ends_cost r s = if is_near s.first s.second then points_cost (drawing_area r) s 
 
 -- ---- packets
 
--- in spans of sixteen cells
+-- the cost of a packet that is drawn in spans, in chunks of up to sixteen cells
 unfoldable pub draw_cost : Registers → Packet → ℕ
 draw_cost r (packet.Poly four a b c d shaded textured semi raw clut page) =
     polygon_cost r (polygon_style shaded textured semi raw clut a) (polygon four a b c d)
@@ -82,7 +82,7 @@ draw_cost r packet.Irq = 0
 draw_cost r packet.Nop = 0
 draw_cost r packet.Finish = 0
 
--- four for each cell of the box of each triangle, segment or rectangle
+-- four steps for each cell of the box of each triangle, segment or rectangle
 unfoldable pub box_cost : Registers → Packet → ℕ
 box_cost r (packet.Poly four a b c d shaded textured semi raw clut page) =
     4 * count_in (triangle_box r (upper_half r (polygon four a b c d)))

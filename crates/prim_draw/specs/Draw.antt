@@ -8,7 +8,8 @@ use Rattle.prim_draw.specs.Parts.{polygon, polygon_style, rectangle_style}
 use Rattle.prim_draw.specs.Rectangles.{drawn_rectangle, extent_at, rectangle_setup_in}
 use Rattle.prim_draw.specs.Triangles.{drawn_polygon}
 
--- a polygon, a line or a rectangle; all others draw nothing. The page attribute stands in the registers already.
+-- a packet draws a polygon, a line or a rectangle; other packets draw nothing. The registers already contain the page
+-- attribute of a polygon.
 unfoldable pub drawn_packet : Registers → Packet → List ℕ → List ℕ
 drawn_packet r (packet.Poly four a b c d shaded textured semi raw clut page) m =
     drawn_polygon r (polygon_style shaded textured semi raw clut a) (polygon four a b c d) m

@@ -1,4 +1,4 @@
--- Segments, point by point (psx-spx, "GPU Render Line Commands"; which points, is our own rule).
+-- Segments, point by point (psx-spx, "GPU Render Line Commands"; the choice of points is our own rule).
 use Rattle.std.specs.Prelude.{ℕ, List, [], ◌∷◌, Option, None, Bool, true, ◌&&◌, if◌then◌else◌, unsigned_abs, ℤ}
 use Rattle.std.specs.Int.{int_min, int_max}
 use Rattle.std.specs.Int.Signed.{le_z}
@@ -15,7 +15,7 @@ use Rattle.gp1_status.specs.Drawing.{drawing_area}
 use Rattle.prim_draw.specs.Pattern.{uniform, painted_cells}
 use Rattle.prim_draw.specs.Settings.{brush_in, placed}
 
--- the smallest box that has both ends
+-- the smallest box that contains both ends
 unfoldable pub ends_box : Ends → Box2
 ends_box s = record {
   x1 = int_min s.first.x s.second.x;
@@ -24,14 +24,15 @@ ends_box s = record {
   y2 = int_max s.first.y s.second.y;
 }
 
--- a segment's box: none where the size rule refuses it or no cell of its box lies in the drawing area
+-- the box of a segment in the drawing area: none if the size rule refuses the segment or no cell of its box is in the
+-- drawing area
 unfoldable pub segment_box : Registers → Ends → Option Box2
 segment_box r s = if is_near s.first s.second then clipped r (ends_box s) else None
 
 abbrev pub is_between : ℤ → ℤ → ℤ → Bool
 is_between low high z = le_z low z && le_z z high
 
--- a point lies in a box
+-- a point is in a box
 unfoldable pub is_in : Box2 → Vertex → Bool
 is_in b p = is_between b.x1 b.x2 p.x && is_between b.y1 b.y2 p.y
 
@@ -42,16 +43,16 @@ cell_of p = record { x = unsigned_abs p.x; y = unsigned_abs p.y }
 abbrev pub plotted : Brush → Cell → ℕ → List ℕ → List ℕ
 plotted brush cell color m = painted_cells (uniform (record { paint = Flat color; brush = brush })) (cell ∷ []) m
 
--- a point is drawn where it lies in the drawing area
+-- a point is drawn if it is in the drawing area
 unfoldable pub drawn_point : Box2 → Brush → Vertex → List ℕ → List ℕ
 drawn_point area brush p m =
     if is_in area p then plotted brush (cell_of p) p.color m else m
 
--- the first n points in their order
+-- the first n points are drawn in their order
 abbrev pub drawn_points : Box2 → Brush → Ends → ℕ → List ℕ → List ℕ
 drawn_points area brush s n m = each_below (λ k. drawn_point area brush (point_of s k)) n m
 
--- all of them, where the size rule admits the segment; lines may be dithered
+-- all points are drawn if the size rule admits the segment; lines may be dithered
 unfoldable pub drawn_ends : Registers → Bool → Ends → List ℕ → List ℕ
 drawn_ends r semi s m =
     if is_near s.first s.second then drawn_points (drawing_area r) (brush_in r semi true) s (len_of s) m else m

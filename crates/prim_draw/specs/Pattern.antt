@@ -1,4 +1,4 @@
--- What cells are drawn with.
+-- Paint and brush of the cells of a primitive.
 use Rattle.std.specs.Prelude.{ℕ, List, Option}
 use Rattle.px_num.specs.declared.shape.Cell.{Cell}
 use Rattle.span_lanes.specs.Cells.{drawn_cells}
@@ -8,7 +8,7 @@ use Rattle.span_lanes.specs.declared.span.Paint.{Paint}
 use Rattle.span_lanes.specs.declared.span.Span.{Span}
 use Rattle.span_lanes.specs.declared.span.DrawState.{DrawState}
 
--- the paint of cells of a row, by the first of them, and how the pixels come to the cells
+-- the paint of the cells of a row, as a function of the first of them, and their brush
 pub record Pattern : Type 0 where
   pub paint : Cell → Paint
   pub brush : Brush
@@ -17,14 +17,14 @@ pub record Pattern : Type 0 where
 abbrev pub uniform : DrawState → Pattern
 uniform state = record { paint = λ cell. state.paint; brush = state.brush }
 
--- the pixel, or none, that a primitive draws at a cell, with video memory as it is then
+-- the pixel, if any, that a primitive draws at a cell, computed from video memory as it is when the cell is drawn
 abbrev pub pixel_at : Pattern → Cell → List ℕ → Option ℕ
 pixel_at p cell m = paint_pixel (p.paint cell) p.brush cell.x cell.y 0 m
 
--- cells with such a pattern, one after another
+-- cells drawn with a pattern one after another
 abbrev pub painted_cells : Pattern → List Cell → List ℕ → List ℕ
 painted_cells p cells m = drawn_cells (pixel_at p) p.brush.mask cells m
 
--- n cells of a row, from a first one to the right
+-- the span of n cells of a row, from the first to the right
 abbrev pub span_from : Pattern → Cell → (n : ℕ) → Span
 span_from p first n = record { x = first.x; y = first.y; n = n; paint = p.paint first; brush = p.brush }

@@ -18,11 +18,11 @@ use Rattle.prim_draw.specs.declared.rectangles.Extent.{Extent}
 use Rattle.prim_draw.specs.declared.rectangles.RectangleSetup.{RectangleSetup}
 use Rattle.prim_draw.specs.declared.style.Style.{Style}
 
--- w by h cells from a first one on, which is moved by the offset
+-- w by h cells, whose first is moved by the drawing offset
 unfoldable pub extent_at : Registers → ℤ → ℤ → ℕ → ℕ → Extent
 extent_at r x y w h = record { left = x +ℤ offset_x r; top = y +ℤ offset_y r; w = w; h = h }
 
--- within the reach of vertices and offsets, and no larger than a rectangle can be
+-- an extent that vertices and offsets can reach, and that is no larger than a rectangle can be
 pub record IsExtent (e : Extent) : Type 0 where
   pub left : negsuc 2047 ≤ℤ e.left
   pub right : e.left ≤ℤ pos 2046
@@ -31,7 +31,7 @@ pub record IsExtent (e : Extent) : Type 0 where
   pub wide : e.w ≤ 1023
   pub high : e.h ≤ 511
 
--- from the first cell to the last
+-- the box of an extent, from its first cell to its last
 abbrev pub cells_box : Extent → Box2
 cells_box e = record {
   x1 = e.left;
@@ -40,14 +40,14 @@ cells_box e = record {
   y2 = e.top +ℤ pos e.h -ℤ pos 1;
 }
 
--- its cells in the drawing area
+-- the box of a rectangle in the drawing area: none if it has no cell there
 unfoldable pub rectangle_box : Registers → Extent → Option Box2
 rectangle_box r e = if (e.w == 0) || (e.h == 0) then None else clipped r (cells_box e)
 
 abbrev pub optional_texture : Registers → Bool → ℕ → Bool → Option Texture
 optional_texture r textured clut raw = if textured then Some (texture_in r clut raw) else None
 
--- what a rectangle is drawn with; it is never dithered
+-- the setup of a rectangle; it is never dithered
 unfoldable pub rectangle_setup_in : Registers → Style → (u v : ℕ) → RectangleSetup
 rectangle_setup_in r style u v = record {
   color = style.color;
@@ -59,7 +59,7 @@ rectangle_setup_in r style u v = record {
   brush = brush_in r style.semi false;
 }
 
--- the paint from a column and a row of the whole rectangle on
+-- the paint of the cells of a row from this column and row of the whole rectangle on
 abbrev pub paint_from : RectangleSetup → Option Texture → ℕ → ℕ → Paint
 paint_from rectangle_setup None column row = Flat rectangle_setup.color
 paint_from rectangle_setup (Some texture) column row =
@@ -75,18 +75,18 @@ column_of e cell = unsigned_abs (pos cell.x -ℤ e.left)
 abbrev pub row_of : Extent → Cell → ℕ
 row_of e cell = unsigned_abs (pos cell.y -ℤ e.top)
 
--- what its cells are drawn with
+-- the pattern of its cells
 abbrev pub pattern_of : RectangleSetup → Extent → Pattern
 pattern_of rectangle_setup e = record { paint = λ cell. rectangle_paint rectangle_setup (column_of e cell) (row_of e cell); brush = rectangle_setup.brush }
 
--- a block of cells of a rectangle that has at most 1023 columns and as many rows
+-- a clip rectangle within the 1023 columns and 1023 rows from the rectangle's first cell on
 pub record IsPartOf (e : Extent) (b : ClipRect) : Type 0 where
   pub left : e.left ≤ℤ pos b.x
   pub top : e.top ≤ℤ pos b.y
   pub right : pos (b.x + b.w) ≤ℤ (e.left +ℤ pos 1023)
   pub bottom : pos (b.y + b.h) ≤ℤ (e.top +ℤ pos 1023)
 
--- what video memory of a height can be drawn with
+-- a setup that can be drawn in video memory of this height
 pub record IsRectangleSetup (height : ℕ) (rectangle_setup : RectangleSetup) : Type 0 where
   pub brush : IsBrush rectangle_setup.brush
   pub texture : IfSome rectangle_setup.texture IsTexture

@@ -12,15 +12,16 @@ use Rattle.prim_draw.specs.Pattern.{Pattern, painted_cells, span_from}
 use Rattle.prim_draw.specs.Triangles.{run_cells}
 use Rattle.span_lanes.specs.declared.span.Run.{Run}
 
--- cells of row y that lie in a block
+-- a run of row y that is in a clip rectangle
 abbrev pub LiesInClip : ClipRect → ℕ → Run → Type 0
 LiesInClip b y run = IsInClip b run.x y run.n
 
--- a run of cells of row y
+-- the span of a run of row y
 abbrev pub run_span : Pattern → ℕ → Run → Span
 run_span p y run = span_from p (record { x = run.x; y = y }) run.n
 
--- it can be drawn in video memory of a height, and the paint of its first cell gives the pixel of each
+-- a run can be drawn in video memory of this height, and the paint of its first cell determines the pixel of each
+-- cell
 pub record CanDraw (height : ℕ) (p : Pattern) (y : ℕ) (run : Run) : Type 0 where
   pub span : IsSpan (run_span p y run)
   pub lies : LiesIn height (run_span p y run)
@@ -28,21 +29,21 @@ pub record CanDraw (height : ℕ) (p : Pattern) (y : ℕ) (run : Run) : Type 0 w
       → paint_pixel (run_span p y run).paint p.brush (run.x + i) y i m
       ≡ paint_pixel (p.paint (record { x = run.x + i; y = y })) p.brush (run.x + i) y 0 m
 
--- ---- what was drawn, with video memory and the steps before and after
+-- ---- what was drawn; stages are video memory and the number of steps before and after
 
--- a run of cells of row y, or none
+-- a run of row y was drawn, if there is one
 pub record DrawsRun (p : Pattern) (y : ℕ) (found : Option Run) (before after : Stage) : Type 0 where
   pub cells : after.m ≡ painted_cells p (run_cells found y) before.m
   pub long : length after.m ≡ length before.m
   pub cost : after.steps ≤ before.steps + side_by_side p (run_cells found y)
 
--- the cells of each row from a top one on, and what they are drawn with
+-- a figure: the cells of each row from the top one on, and their pattern
 pub record Figure : Type 0 where
   pub pattern : Pattern
   pub row : ℕ → List Cell
   pub top : ℕ
 
--- the first rows of a figure
+-- the first `count` rows of a figure were drawn
 pub record DrawsRows (f : Figure) (count : ℕ) (before after : Stage) : Type 0 where
   pub cells : after.m ≡ painted_cells f.pattern (cells_down f.row f.top count) before.m
   pub long : length after.m ≡ length before.m

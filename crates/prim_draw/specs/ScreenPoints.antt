@@ -1,13 +1,13 @@
--- Places, and boxes by their corners.
+-- Points of the screen, and boxes given by their corners.
 use Rattle.std.specs.Int.{int_min, int_max}
 use Rattle.px_num.specs.declared.shape.Box2.{Box2}
 use Rattle.prim_draw.specs.declared.boxes.ScreenPoint.{ScreenPoint}
 
--- the first of the columns and the first of the rows
+-- the smaller column and the smaller row
 abbrev pub least : ScreenPoint → ScreenPoint → ScreenPoint
 least a b = record { x = int_min a.x b.x; y = int_min a.y b.y }
 
--- the last of the columns and the last of the rows
+-- the greater column and the greater row
 abbrev pub greatest : ScreenPoint → ScreenPoint → ScreenPoint
 greatest a b = record { x = int_max a.x b.x; y = int_max a.y b.y }
 

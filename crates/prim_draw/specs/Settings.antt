@@ -1,5 +1,5 @@
--- How the registers settle what a packet draws (psx-spx, "GPU Rendering Attributes"; that sums with the offset are not
--- wrapped is our own rule).
+-- How the registers determine what a packet draws (psx-spx, "GPU Rendering Attributes"; that sums with the offset are
+-- not wrapped is our own rule).
 use Rattle.std.specs.Prelude.{ℕ, ◌+ℤ◌, ◌&&◌, Bool}
 use Rattle.px_num.specs.declared.shape.Vertex.{Vertex}
 use Rattle.gp1_status.specs.Drawing.{blend_mode, dithers, offset_x, offset_y, page_in, window_in}
@@ -7,7 +7,7 @@ use Rattle.gp1_status.specs.Registers.{Registers}
 use Rattle.span_lanes.specs.declared.span.Brush.{Brush}
 use Rattle.texel_lanes.specs.declared.texture.Texture.{Texture}
 
--- a vertex with the offset added
+-- a vertex with the drawing offset added
 unfoldable pub placed : Registers → Vertex → Vertex
 placed r p = record { x = p.x +ℤ offset_x r; y = p.y +ℤ offset_y r; color = p.color; u = p.u; v = p.v }
 
@@ -15,7 +15,8 @@ placed r p = record { x = p.x +ℤ offset_x r; y = p.y +ℤ offset_y r; color = 
 unfoldable pub texture_in : Registers → ℕ → Bool → Texture
 texture_in r clut raw = record { page = page_in r; window = window_in r; clut = clut; raw = raw }
 
--- the mask setting and the blending mode for a packet; what may be dithered is where the draw mode says so
+-- the brush of a packet: mask setting, blending mode, and whether it is dithered, which needs both the packet and the
+-- draw mode
 unfoldable pub brush_in : Registers → Bool → Bool → Brush
 brush_in r semi may_dither =
     record { mask = r.mask; mode = blend_mode r; semi = semi; dither = may_dither && dithers r }

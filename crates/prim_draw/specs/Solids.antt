@@ -1,4 +1,4 @@
--- Colours that each cell becomes, whatever it holds.
+-- Colours that every cell becomes, whatever its value.
 use Rattle.std.specs.Prelude.{ℕ}
 use Rattle.span_lanes.specs.Lanes.{IsSolid}
 use Rattle.span_lanes.specs.declared.span.Brush.{Brush}
@@ -10,7 +10,7 @@ use Rattle.prim_draw.specs.declared.solid.Solid.{Solid}
 abbrev pub flat_state : (color : ℕ) → Brush → DrawState
 flat_state color brush = record { paint = Flat color; brush = brush }
 
--- what cells are drawn with
+-- the paint and the draw state of such a colour
 abbrev pub solid_paint : Solid → Paint
 solid_paint solid = Flat solid.color
 

@@ -1,4 +1,4 @@
--- What drawing changes, and what it reads.
+-- The cells that drawing changes, and those that it reads.
 use Rattle.std.specs.Prelude.{ℕ, List, Bool, true, false}
 use Rattle.gp0_packets.specs.declared.packet.Packet.{Packet}
 use Rattle.gp0_packets.specs.declared.packet.Packet.TheVariants as packet
@@ -7,7 +7,7 @@ use Rattle.prim_draw.specs.Areas.{area_of}
 use Rattle.prim_draw.specs.Draw.{drawn_packet}
 use Rattle.prim_draw.specs.Apart.{AgreeOutside, SameAt}
 
--- no cell outside of a packet's area changes; where there is none, none at all
+-- no cell outside a packet's area changes; without an area, no cell changes
 abbrev pub DrawingStays : Type 0
 DrawingStays = (r : Registers) (p : Packet) (m : List ℕ) → AgreeOutside (area_of r p) m (drawn_packet r p m)
 
@@ -16,13 +16,13 @@ abbrev pub IsUnset : Bool → Type 0
 IsUnset true = ⊥
 IsUnset false = Unit {0}
 
--- it samples no texture
+-- a packet samples no texture
 abbrev pub IsUntextured : Packet → Type 0
 IsUntextured (packet.Poly four a b c d shaded textured semi raw clut page) = IsUnset textured
 IsUntextured (packet.Rect x y w h color textured semi raw u v clut) = IsUnset textured
 IsUntextured other = Unit {0}
 
--- where two states agree at a cell, they do so after the same drawing without texture
+-- if two states are equal at a cell, they are equal there after the same drawing without texture
 abbrev pub DrawingIsLocal : Type 0
 DrawingIsLocal = (r : Registers) (p : Packet) (k : ℕ) (m now : List ℕ) → IsUntextured p → SameAt k m now
     → SameAt k (drawn_packet r p m) (drawn_packet r p now)

@@ -1,4 +1,4 @@
--- Triangles and quads, cell by cell (psx-spx, "GPU Render Polygon Commands"; which cells, is our own rule).
+-- Triangles and quads, cell by cell (psx-spx, "GPU Render Polygon Commands"; the choice of cells is our own rule).
 use Rattle.std.specs.Prelude.{ℕ, ◌≡◌, ◌≤◌, ◌+◌, List, [], Option, None, Some, Bool, IfSome, ◌||◌, if◌then◌else◌}
 use Rattle.std.specs.Prelude.{pos}
 use Rattle.std.specs.List.{filter}
@@ -23,15 +23,17 @@ use Rattle.prim_draw.specs.declared.polygon.Polygon.{Polygon}
 use Rattle.prim_draw.specs.declared.style.Style.{Style}
 use Rattle.span_lanes.specs.declared.span.Run.{Run}
 
--- the triangle draws this cell
+-- the triangle draws this cell, unless it is clipped
 abbrev pub draws : Corners → Cell → Bool
 draws t cell = is_inside t (pos cell.x) (pos cell.y)
 
--- its box: none where the size rule refuses it, its area is 0 or no cell of its box lies in the drawing area
+-- the box of a triangle in the drawing area: none if the size rule refuses it, its area is 0 or no cell of its box is
+-- in the drawing area
 unfoldable pub triangle_box : Registers → Corners → Option Box2
 triangle_box r t = if is_drawn t then clipped r (bounding_box t) else None
 
--- textured, shaded or of the command's colour; where it is flat and untextured it is not dithered
+-- the paint of a triangle: textured, shaded or of the command's colour; a flat triangle without a texture is not
+-- dithered
 unfoldable pub triangle_paint : Registers → Style → Corners → Paint
 triangle_paint r style t =
     if style.textured then TexturedTri t (texture_in r style.clut style.raw)
@@ -50,11 +52,11 @@ drawn_inside state t (Some b) m = painted_cells (uniform state) (filter (draws t
 unfoldable pub drawn_triangle : Registers → Style → Corners → List ℕ → List ℕ
 drawn_triangle r style t m = drawn_inside (triangle_state r style t) t (triangle_box r t) m
 
--- three vertices of a packet
+-- three vertices of a packet with the drawing offset added
 abbrev pub placed_corners : Registers → Vertex → Vertex → Vertex → Corners
 placed_corners r a b c = corners (placed r a) (placed r b) (placed r c)
 
--- the triangles of a polygon: 1-2-3, and 2-3-4 where it has four vertices
+-- the triangles of a polygon: 1-2-3, and 2-3-4 if it has four vertices
 abbrev pub upper_half : Registers → Polygon → Corners
 upper_half r p = placed_corners r p.a p.b p.c
 
@@ -69,7 +71,7 @@ drawn_polygon r style p m =
 
 -- ---- by rows
 
--- the cells of row y of a block that the triangle draws
+-- the cells of row y of a clip rectangle that the triangle draws
 abbrev pub row_inside : Corners → ClipRect → ℕ → List Cell
 row_inside t b y = filter (draws t) (row_cells b.x y b.w)
 
@@ -78,22 +80,22 @@ abbrev pub run_cells : Option Run → ℕ → List Cell
 run_cells None y = []
 run_cells (Some run) y = row_cells run.x y run.n
 
--- cells of row y that a triangle draws, side by side
+-- consecutive cells of row y that a triangle draws
 pub record IsRun (t : Corners) (y : ℕ) (run : Run) : Type 0 where
   pub some : 1 ≤ run.n
   pub in_row : run.x + run.n ≤ 1024
   pub inside : AreInside t run.x y run.n
 
--- where the cells are inside of the triangle, they can be drawn with the paint
+-- if cells are inside the triangle, they can be drawn with the paint
 pub record FitsTriangle (t : Corners) (paint : Paint) : Type 0 where
   pub inside : (x y n : ℕ) → AreInside t x y n → HasInside paint x y n
 
--- the pixel of a cell does not hang on its number in a row
+-- the pixel of a cell does not depend on its number in a row
 pub record IsAlike (paint : Paint) : Type 0 where
   pub alike : (brush : Brush) (x y i j : ℕ) (m : List ℕ)
       → paint_pixel paint brush x y i m ≡ paint_pixel paint brush x y j m
 
--- what video memory of a height can be drawn with
+-- a draw state that can be used in video memory of this height
 pub record IsDrawState (height : ℕ) (state : DrawState) : Type 0 where
   pub brush : IsBrush state.brush
   pub texture : IfSome (texture_of state.paint) IsTexture

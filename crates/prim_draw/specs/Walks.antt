@@ -12,29 +12,29 @@ use Rattle.prim_draw.specs.Triangles.{row_inside}
 use Rattle.span_lanes.specs.declared.span.DrawState.{DrawState}
 use Rattle.prim_draw.specs.declared.triangle_rows.TriangleRows.{TriangleRows}
 
--- a walk stands at a row of a triangle in a box of video memory
+-- a scan is at row y of a triangle in a box of video memory
 pub record IsRowOf (t : Corners) (clip : Box2) (y : ℕ) (rows : RowScan) : Type 0 where
   pub stands : AreRows t clip (pos y) rows
   pub on_screen : IsOnScreen 1024 clip
   pub in_box : pos y ≤ℤ clip.y2
 
--- the rows of a triangle in a box stand at this one, or behind the last
+-- the scan of a triangle's rows in a box is at row y, or just below the box
 pub record StandAt (rows : TriangleRows) (y : ℕ) : Type 0 where
   pub on_screen : IsOnScreen 1024 rows.clip.now
   pub clip_rect : rows.clip_rect ≡ clip_rect_of rows.clip.now
   pub stands : AreRows rows.tri.now rows.clip.now (pos y) rows.walk
 
--- they are those of this triangle in this box, and stand at the first
+-- the rows are those of this triangle in this box, and the scan is at the first
 pub record AreRowsIn (t : Corners) (clip : Box2) (rows : TriangleRows) : Type 0 where
   pub tri : rows.tri.now ≡ t
   pub clip_rect : rows.clip_rect ≡ clip_rect_of clip
   pub stand : StandAt rows (clip_rect_of clip).y
 
--- what a triangle draws in a box
+-- the figure that a triangle draws in a box
 abbrev pub triangle_figure : DrawState → Corners → Box2 → Figure
 triangle_figure state t clip =
     record { pattern = uniform state; row = row_inside t (clip_rect_of clip); top = (clip_rect_of clip).y }
 
--- it was drawn, with video memory and the steps before and after
+-- a triangle was drawn; stages are video memory and the number of steps before and after
 abbrev pub DrawsTriangle : DrawState → Corners → Box2 → (before after : Stage) → Type 0
 DrawsTriangle state t clip before after = DrawsRows (triangle_figure state t clip) (clip_rect_of clip).h before after

@@ -49,7 +49,7 @@ first_byte cells long fits i lt =
     ∙ ap (λ h. h / 256 ^ (i % 2) % 256)
     (get_or-chunk 0 8 cells (i / 2) 0 (omega arith) ∙ ap (λ n. get_or cells n 0) (zero-add (i / 2)))
 
--- two lists, in turn
+-- the elements of two lists, alternating
 abbrev pub woven : List ℕ → List ℕ → List ℕ
 woven [] ys = []
 woven (x ∷ xs) [] = []
@@ -72,7 +72,7 @@ digits_woven (x ∷ xs) (y ∷ ys) long small_x small_y =
     let tail : (x + 256 * (y + 256 * r)) / 65536 ≡ r = omega arith in
     rw (head, tail, digits_woven xs ys (omega arith) small_x.1 small_y.1) refl
 
--- halfwords of low bytes and high ones
+-- halfwords with these low and high bytes
 pub joined_is : (low high : List ℕ) → length low ≡ 16 → length high ≡ 16 → EachLane (λ i. get_or low i 0 < 256)
     → EachLane (λ i. get_or high i 0 < 256)
     → digits_l 65536 16

@@ -1,4 +1,4 @@
--- What an operation on vectors of sixteen lanes does to one lane.
+-- The result of a vector operation in one lane.
 use Rattle.std.proofs.Common.{◌≡◌, ℕ, suc, ◌+◌, ◌-◌, ◌%◌, ◌^◌, ◌<◌, min, List, [], ◌∷◌, Bool, false, cond, ltb, length}
 use Rattle.std.proofs.Common.{get_or, replicate, map, Fits, w16, refl, ap, ◌∙◌, arith}
 use Rattle.std.specs.Int.{Width}
@@ -8,7 +8,7 @@ use mir.Val.{hbits, bits}
 use Rattle.std.proofs.lemmas.Simd.{get_or-zip2, length-zip2, get_or-replicate, Each1-get_or, length-sel_l, get_or-sel_l}
 use Rattle.std.proofs.lemmas.Simd.{tops_compared}
 
--- the tests of two vectors, lane by lane, as a comparison leaves them
+-- the lane by lane results of a comparison of two vectors
 abbrev pub compared : Width → (ℕ → ℕ → Bool) → List ℕ → List ℕ → List Bool
 compared w t a b = map (top (hbits w)) (zip2 (λ x y. cond (t x y) (2 ^ bits w - 1) 0) a b)
 
@@ -41,7 +41,7 @@ module _ (a b : List ℕ) (long_a : length a ≡ 16) (long_b : length b ≡ 16) 
   pub at_test : (t : ℕ → ℕ → Bool) (i : ℕ) → i < 16 → get_or (zip2 t a b) i false ≡ t (get_or a i 0) (get_or b i 0)
   at_test t i lt = get_or-zip2 t a b i 0 0 false (omega arith) (omega arith)
 
-  -- a choice by a test of two vectors
+  -- a choice by a comparison of two vectors
   module _ (t : ℕ → ℕ → Bool) (first others : List ℕ) (long_first : length first ≡ 16)
       (long_others : length others ≡ 16) where
     pub long_select : length (sel_l (zip2 t a b) first others) ≡ 16
@@ -52,7 +52,7 @@ module _ (a b : List ℕ) (long_a : length a ≡ 16) (long_b : length b ≡ 16) 
     at_select i lt = at_choice (zip2 t a b) first others (long_test t) long_first long_others i lt
         ∙ ap (λ m. cond m (get_or first i 0) (get_or others i 0)) (at_test t i lt)
 
-    -- the same by the comparison's bits, as the machine does it
+    -- the same with the comparison's bits, as the machine does it
     pub long_where : (w : Width) → length (sel_l (compared w t a b) first others) ≡ 16
     long_where w = ap (λ ms. length (sel_l ms first others)) (tops_compared w t a b) ∙ long_select
 
@@ -71,7 +71,7 @@ at_splat f a n long i lt = at_zip a (replicate 16 n) long refl f i lt
 pub smaller_is : (m n : ℕ) → cond (ltb m n) m n ≡ min m n
 smaller_is m n = grind (arith, nat_tests)
 
--- the larger of two numbers less the second, as the machine subtracts
+-- the larger of two numbers minus the second, as the machine subtracts with saturation
 pub sub_saturated : (m n : ℕ) → m < 2 ^ 16 → n < 2 ^ 16 → (cond (ltb m n) n m + (2 ^ 16 - n)) % 2 ^ 16 ≡ m - n
 sub_saturated m n a b = grind (arith, nat_tests)
 

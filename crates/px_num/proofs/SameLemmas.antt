@@ -1,4 +1,4 @@
--- Vectors that are the same.
+-- Equality of vectors.
 use Rattle.std.proofs.Common.{◌≡◌, ℕ, ◌/◌, ◌%◌, ◌^◌, List, Bool, cond, not, eqb, length, get_or, w16, IsTrue}
 use Rattle.std.proofs.Common.{[], ◌∷◌, suc, ◌<◌, false, refl, sym, ap, ◌∙◌, arith}
 use lib.Lanes.{zip2, mask_l}
@@ -30,7 +30,7 @@ same_lanes a b long_a long_b h i lt =
     (ap (λ m. cond m 1 0) (sym (at_test a b long_a long_b t i lt)) ∙ sym (bit_mask_l (zip2 t a b) i)
     ∙ no_bit (mask_l (zip2 t a b)) (2 ^ i) all)
 
--- no test that is true
+-- a mask is 0 if no test is true
 no_mask : (ms : List Bool) → ((i : ℕ) → i < length ms → get_or ms i false ≡ false) → mask_l ms ≡ 0
 no_mask [] none = refl
 no_mask (m ∷ ms) none = rw (none 0 (omega arith), no_mask ms (λ i lt. none (suc i) (omega arith))) refl

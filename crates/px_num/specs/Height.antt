@@ -1,4 +1,4 @@
--- How many rows video memory has (psx-spx, "GPU Video Memory (VRAM)", and "2 MB VRAM" for the arcade boards).
+-- The number of rows of video memory (psx-spx, "GPU Video Memory (VRAM)", and "2 MB VRAM" for the arcade boards).
 use Rattle.std.specs.Prelude.{◌≡◌, ◌⊎◌, ℕ, Bool, if◌then◌else◌}
 
 -- 512 rows on the console, and 1024 in the tall profile

@@ -1,4 +1,4 @@
--- Small numbers out of words (psx-spx, "GPU Render Commands": vertices and offsets).
+-- Small numbers in words (psx-spx, "GPU Render Commands": vertices and offsets).
 use Rattle.std.specs.Prelude.{ℕ, ℤ, pos, ◌+◌, ◌%◌, ◌-ℤ◌}
 
 -- the signed value of the low eleven bits, -1024 to 1023

@@ -1,6 +1,6 @@
--- Memories of zeros.
+-- Lists of zeros.
 use Rattle.std.specs.Prelude.{ℕ, List, replicate}
 
--- so many zeros; no proof computes them
+-- n zeros; no proof computes them
 unfoldable pub zeros : ℕ → List ℕ
 zeros n = replicate n 0

@@ -1,11 +1,11 @@
-//! Operations on sixteen bytes, each by what it does to a lane.
+//! Operations on sixteen bytes, each defined lane by lane.
 ghost use Rattle.std.specs.Prelude.{◌≡◌, ◌<◌, ◌+◌, ◌-◌, ◌*◌, ◌/◌, ◌%◌, ◌^◌, ◌==◌, if◌then◌else◌};
 ghost use Rattle.std.specs.Prelude.{length, slice_index};
 ghost use Rattle.px_num.specs.Lanes.{EachLane, AreBytes};
 
 use std::simd::prelude::*;
 
-// The sums, which fit.
+// Returns the sum of each lane, which must be at most 255.
 #[inline(always)]
 fn sums(a: u8x16, b: u8x16) -> u8x16
     requires { EachLane (λ i. slice_index a i + slice_index b i < 2 ^ 8) }
@@ -31,7 +31,7 @@ fn ramp() -> u8x16
     u8x16::from_array([0, 1, 2, 3, 4, 5, 6, 7, 8, 9, 10, 11, 12, 13, 14, 15])
 }
 
-/// Sixteen numbers from one on.
+/// Returns the sixteen numbers from `first` on. `first` is below 240.
 #[inline(always)]
 pub fn bytes_from(first: u8) -> u8x16
     requires { first < 240 }
@@ -41,7 +41,7 @@ pub fn bytes_from(first: u8) -> u8x16
     sums(splat(first), ramp())
 }
 
-/// Each number divided by a power of two.
+/// Returns each byte divided by 2^`by`, rounded down. `by` is below 8.
 #[inline(always)]
 pub fn bytes_down(a: u8x16, by: u8) -> u8x16
     requires long { length a ≡ 16 }
@@ -52,7 +52,7 @@ pub fn bytes_down(a: u8x16, by: u8) -> u8x16
     a >> by
 }
 
-// The number of so many bits that are 1.
+// Returns the number whose low `count` bits are 1.
 #[inline(always)]
 fn ones(count: u8) -> u8
     requires { count < 8 }
@@ -61,7 +61,7 @@ fn ones(count: u8) -> u8
     (1 << count) - 1
 }
 
-/// Each number modulo a power of two.
+/// Returns each byte modulo 2^`count`. `count` is below 8.
 #[inline(always)]
 pub fn bytes_low(a: u8x16, count: u8) -> u8x16
     requires long { length a ≡ 16 }
@@ -72,7 +72,7 @@ pub fn bytes_low(a: u8x16, count: u8) -> u8x16
     a & u8x16::splat(ones(count))
 }
 
-/// The lanes of one vector where a number is 0, and the others of another one.
+/// Returns lane `i` of `first` if lane `i` of `a` is 0, else lane `i` of `others`.
 #[inline(always)]
 pub fn where_zero(a: u8x16, first: u8x16, others: u8x16) -> u8x16
     requires tested { length a ≡ 16 }
@@ -84,7 +84,7 @@ pub fn where_zero(a: u8x16, first: u8x16, others: u8x16) -> u8x16
     a.simd_eq(u8x16::splat(0)).select(first, others)
 }
 
-/// The bytes at sixteen positions.
+/// Returns byte `positions[i]` of `bytes` in lane `i`. Positions are below 16.
 #[inline(always)]
 pub fn bytes_at(bytes: u8x16, positions: u8x16) -> u8x16
     requires bytes { AreBytes bytes }
@@ -96,7 +96,7 @@ pub fn bytes_at(bytes: u8x16, positions: u8x16) -> u8x16
     bytes.swizzle_dyn_within::<16>(positions)
 }
 
-/// The bytes of the first eight halfwords.
+/// Returns the sixteen bytes of the first eight halfwords, the low byte of each first.
 #[inline(always)]
 pub fn first_bytes(cells: u16x16) -> u8x16
     requires { length cells ≡ 16 }
@@ -116,7 +116,7 @@ fn as_bytes(a: u16x16) -> u8x16
     a.cast::<u8>()
 }
 
-/// Numbers below 256 as bytes.
+/// Returns the lanes, which must be below 256, as bytes.
 #[inline(always)]
 pub fn narrowed(a: u16x16) -> u8x16
     requires long { length a ≡ 16 }
@@ -127,7 +127,7 @@ pub fn narrowed(a: u16x16) -> u8x16
     as_bytes(a)
 }
 
-/// Halfwords of low bytes and high ones.
+/// Returns the halfwords with these low and high bytes.
 #[inline(always)]
 pub fn joined(low: u8x16, high: u8x16) -> u16x16
     requires low { AreBytes low }

@@ -1,15 +1,15 @@
-//! Lanes of which the first are wanted: a rest of a row has at most half of a vector's, and then nothing should be
-//! reckoned for the other half.
+//! Vectors of which only the first lanes are used. The rest of a row often fills at most half of a vector. Then
+//! nothing needs to be computed for the other half.
 ghost use Rattle.std.specs.Prelude.{◌≡◌, ◌≤◌, ◌<◌, ℕ, if◌then◌else◌, nat_lt, length, slice_index};
 ghost use Rattle.px_num.specs.Lanes.{EachLane};
 
 use crate::lanes::{ramp, splat, where_below};
 use std::simd::prelude::*;
 
-/// Half of a vector's lanes.
+/// Half the number of a vector's lanes.
 pub const HALF: u8 = 8;
 
-/// The first `n` lanes of one vector, and the others of another one.
+/// Returns the first `n` lanes of `first`, and the other lanes of `others`.
 #[inline(always)]
 pub fn first_lanes(n: u8, first: u16x16, others: u16x16) -> u16x16
     requires { (length first ≡ 16) × (length others ≡ 16) }
@@ -20,8 +20,8 @@ pub fn first_lanes(n: u8, first: u16x16, others: u16x16) -> u16x16
     where_below(ramp(), splat(n as u16), first, others)
 }
 
-/// These lanes, of which the first `n` are wanted: where they are at most half of them, the other half become zeros,
-/// so that nothing needs to be reckoned for it.
+/// Returns a vector whose first `n` lanes are those of `lanes`. If `n` is at most 8, the last eight lanes are 0, so
+/// the compiler computes nothing for them.
 #[inline(always)]
 pub fn wanted_lanes(n: u8, lanes: u16x16) -> u16x16
     requires { length lanes ≡ 16 }

@@ -1,4 +1,4 @@
-//! Operations on sixteen lanes of 16 bits, each by what it does to a lane.
+//! Operations on sixteen lanes of 16 bits, each defined lane by lane.
 ghost use Rattle.std.specs.Prelude.{◌≡◌, ◌<◌, ◌+◌, ◌-◌, ◌*◌, ◌/◌, ◌%◌, ◌^◌, ◌==◌, ◌↔◌, IsTrue, if◌then◌else◌, nat_lt};
 ghost use Rattle.std.specs.Prelude.{min, length, slice_index};
 ghost use Rattle.std.specs.Int.RustNames.{bit_and, bit_or};
@@ -6,7 +6,7 @@ ghost use Rattle.px_num.specs.Lanes.{EachLane};
 
 use std::simd::prelude::*;
 
-/// The same value in each lane.
+/// Returns `value` in each lane.
 pub fn splat(value: u16) -> u16x16
     ensures long { length result ≡ 16 }
     ensures value { EachLane (λ i. slice_index result i ≡ value) }
@@ -14,7 +14,7 @@ pub fn splat(value: u16) -> u16x16
     u16x16::splat(value)
 }
 
-/// The numbers of the lanes.
+/// Returns the lane number, 0 to 15, in each lane.
 #[inline(always)]
 pub fn ramp() -> u16x16
     ensures long { length result ≡ 16 }
@@ -23,7 +23,7 @@ pub fn ramp() -> u16x16
     u16x16::from_array([0, 1, 2, 3, 4, 5, 6, 7, 8, 9, 10, 11, 12, 13, 14, 15])
 }
 
-/// The sums, which fit.
+/// Returns the sum of each lane, which must fit in 16 bits.
 pub fn add(a: u16x16, b: u16x16) -> u16x16
     requires { EachLane (λ i. slice_index a i + slice_index b i < 2 ^ 16) }
     ensures long { length result ≡ 16 }
@@ -32,7 +32,7 @@ pub fn add(a: u16x16, b: u16x16) -> u16x16
     a.strict_add(b)
 }
 
-/// The products, which fit.
+/// Returns the product of each lane, which must fit in 16 bits.
 pub fn mul(a: u16x16, b: u16x16) -> u16x16
     requires { EachLane (λ i. slice_index a i * slice_index b i < 2 ^ 16) }
     ensures long { length result ≡ 16 }
@@ -41,7 +41,7 @@ pub fn mul(a: u16x16, b: u16x16) -> u16x16
     a.strict_mul(b)
 }
 
-/// The products modulo 2^16.
+/// Returns the product of each lane modulo 2^16.
 #[inline(always)]
 pub fn wrapping_mul(a: u16x16, b: u16x16) -> u16x16
     requires { (length a ≡ 16) × (length b ≡ 16) }
@@ -51,7 +51,7 @@ pub fn wrapping_mul(a: u16x16, b: u16x16) -> u16x16
     a * b
 }
 
-/// The differences, 0 where the second number is the larger.
+/// Returns `a` minus `b` in each lane, or 0 if `b` is larger.
 pub fn sub_or_zero(a: u16x16, b: u16x16) -> u16x16
     requires { (length a ≡ 16) × (length b ≡ 16) }
     ensures long { length result ≡ 16 }
@@ -60,7 +60,7 @@ pub fn sub_or_zero(a: u16x16, b: u16x16) -> u16x16
     a.saturating_sub(b)
 }
 
-/// The differences modulo 2^16.
+/// Returns `a` minus `b` in each lane modulo 2^16.
 #[inline(always)]
 pub fn wrapping_sub(a: u16x16, b: u16x16) -> u16x16
     requires { (length a ≡ 16) × (length b ≡ 16) }
@@ -71,7 +71,7 @@ pub fn wrapping_sub(a: u16x16, b: u16x16) -> u16x16
     a - b
 }
 
-/// The smaller of two numbers in each lane.
+/// Returns the smaller of the two numbers in each lane.
 pub fn smaller(a: u16x16, b: u16x16) -> u16x16
     requires { (length a ≡ 16) × (length b ≡ 16) }
     ensures long { length result ≡ 16 }
@@ -80,7 +80,7 @@ pub fn smaller(a: u16x16, b: u16x16) -> u16x16
     a.simd_min(b)
 }
 
-/// Each lane divided by a power of two.
+/// Returns each lane divided by 2^`by`, rounded down. `by` is below 16.
 pub fn shifted_down(a: u16x16, by: u16) -> u16x16
     requires long { length a ≡ 16 }
     requires by { by < 16 }
@@ -90,7 +90,7 @@ pub fn shifted_down(a: u16x16, by: u16) -> u16x16
     a >> by
 }
 
-// The number of so many bits that are 1.
+// Returns the number whose low `count` bits are 1.
 #[inline(always)]
 fn ones(count: u16) -> u16
     requires { count < 16 }
@@ -99,7 +99,7 @@ fn ones(count: u16) -> u16
     (1 << count) - 1
 }
 
-/// Each lane modulo a power of two.
+/// Returns each lane modulo 2^`count`. `count` is below 16.
 #[inline(always)]
 pub fn low_bits(a: u16x16, count: u16) -> u16x16
     requires long { length a ≡ 16 }
@@ -110,7 +110,7 @@ pub fn low_bits(a: u16x16, count: u16) -> u16x16
     a & u16x16::splat(ones(count))
 }
 
-/// The bits that are 1 in both vectors.
+/// Returns the bitwise AND of each lane.
 #[inline(always)]
 pub fn and(a: u16x16, b: u16x16) -> u16x16
     requires { (length a ≡ 16) × (length b ≡ 16) }
@@ -120,7 +120,7 @@ pub fn and(a: u16x16, b: u16x16) -> u16x16
     a & b
 }
 
-/// The bits that are 1 in one of two vectors.
+/// Returns the bitwise OR of each lane.
 #[inline(always)]
 pub fn or(a: u16x16, b: u16x16) -> u16x16
     requires { (length a ≡ 16) × (length b ≡ 16) }
@@ -130,7 +130,7 @@ pub fn or(a: u16x16, b: u16x16) -> u16x16
     a | b
 }
 
-/// Whether two vectors are the same.
+/// Returns whether the two vectors are equal in all lanes.
 #[inline(always)]
 pub fn same(a: u16x16, b: u16x16) -> bool
     requires { (length a ≡ 16) × (length b ≡ 16) }
@@ -139,7 +139,7 @@ pub fn same(a: u16x16, b: u16x16) -> bool
     a == b
 }
 
-/// Whether all lanes are 0.
+/// Returns whether all lanes are 0.
 #[inline(always)]
 pub fn are_zero(a: u16x16) -> bool
     requires { length a ≡ 16 }
@@ -148,7 +148,7 @@ pub fn are_zero(a: u16x16) -> bool
     a == u16x16::splat(0)
 }
 
-/// The lanes of one vector where a is below b, and the others of another one.
+/// Returns lane `i` of `first` if lane `i` of `a` is below that of `b`, else lane `i` of `others`.
 #[inline(always)]
 pub fn where_below(a: u16x16, b: u16x16, first: u16x16, others: u16x16) -> u16x16
     requires tested { (length a ≡ 16) × (length b ≡ 16) }
@@ -160,7 +160,7 @@ pub fn where_below(a: u16x16, b: u16x16, first: u16x16, others: u16x16) -> u16x1
     a.simd_lt(b).select(first, others)
 }
 
-/// The lanes of one vector where a is b, and the others of another one.
+/// Returns lane `i` of `first` if lane `i` of `a` equals that of `b`, else lane `i` of `others`.
 #[inline(always)]
 pub fn where_equal(a: u16x16, b: u16x16, first: u16x16, others: u16x16) -> u16x16
     requires tested { (length a ≡ 16) × (length b ≡ 16) }

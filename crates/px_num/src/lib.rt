@@ -1,7 +1,7 @@
-//! Small numbers, lanes and the plain types that the other crates share.
+//! Small numbers, vectors and the plain types that the other crates share.
 //!
-//! Coordinates grow to the right and downward. A row of video memory has 1024 cells; how many rows
-//! there are is a value, the height, and never a number written into a formula.
+//! Coordinates increase to the right and downward. A row of video memory has 1024 cells. The number of rows, called
+//! height, is 512 or 1024; formulas take it as a value.
 #![tactic(auto)]
 
 pub mod bytes;

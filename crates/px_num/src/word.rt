@@ -2,7 +2,7 @@
 ghost use Rattle.std.specs.Prelude.{◌≡◌, ◌==◌, ◌/◌, ◌%◌, ◌^◌, ◌<◌};
 ghost use Rattle.std.specs.Int.{bit_at};
 
-/// Whether bit `k` of a word is 1.
+/// Returns whether bit `k` of `word` is 1. `k` is below 32.
 pub fn bit(word: u32, k: u32) -> bool
     requires { k < 32 }
     ensures { result ≡ (bit_at word k == 1) }
@@ -10,7 +10,7 @@ pub fn bit(word: u32, k: u32) -> bool
     word >> k & 1 == 1
 }
 
-/// The number in the `width` bits of a word from bit `low` on.
+/// Returns the `width` bits of `word` from bit `low` on, as a number. Both are below 32.
 pub fn bits(word: u32, low: u32, width: u32) -> u32
     requires low { low < 32 }
     requires width { width < 32 }

@@ -1,4 +1,4 @@
--- The attributes of a triangle with their ramps, at the cells of a part.
+-- The attributes of a triangle with their ramps, at the cells of a chunk.
 use Rattle.std.proofs.Common.{◌≡◌, ◌≤◌, ◌<◌, ◌+◌, ℕ, List, get_or, arith}
 use Rattle.edge_walk.specs.Plane.{IsPlane}
 use Rattle.edge_walk.specs.PlaneRamp.{AreAttributes}
@@ -18,7 +18,7 @@ use Rattle.span_lanes.specs.Shade.{attribute_in, color_in, AreInside, HasInside,
 use Rattle.span_lanes.proofs.ColorLemmas.{red_mixed, green_mixed, blue_mixed}
 use Rattle.span_lanes.proofs.ShadingLemmas.{first_cell}
 
--- the lanes of a part are the attribute at its cells
+-- the lanes of a chunk are the attribute at its cells
 pub part_lanes : (tri : Corners) (which x y n first k : ℕ) (lanes : List ℕ) → 1 ≤ n → AreInside tri x y n
     → first + k ≤ n → k ≤ 16 → AreAttributes tri which (x + first) y lanes
     → (j : ℕ) → j < k → get_or lanes j 0 ≡ attribute_in tri which (x + first + j) y
@@ -27,7 +27,7 @@ part_lanes tri which x y n first k lanes some inside within few are j lt =
     are x j (omega arith) (first_cell tri x y n some inside) (omega (arith, lt, few))
     (rw cell at (inside (first + j) (omega (arith, lt, within))))
 
--- lanes that are an attribute of whatever triangle a plane is of
+-- lanes with the attribute of any triangle that the plane belongs to
 abbrev pub FromPlane : Plane → (x y : ℕ) → (lanes : List ℕ) → Type 0
 FromPlane plane x y lanes = (t : Corners) (which : ℕ) → IsPlane t which plane → AreAttributes t which x y lanes
 

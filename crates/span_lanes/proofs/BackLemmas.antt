@@ -1,4 +1,4 @@
--- Halfwords that do for what cells hold.
+-- Halfwords that may replace the values of cells.
 use Rattle.std.proofs.Common.{◌≡◌, ℕ, ℤ, false, refl, inl, inr}
 use Rattle.vram_store.specs.Plot.{is_kept, is_testing}
 use Rattle.span_lanes.specs.declared.span.Brush.{Brush}
@@ -12,7 +12,7 @@ unfolding flat_pixel blended_if
 flat_back brush color shift cell h (inl e) = rw e refl
 flat_back brush color shift cell h (inr free) = rw free.0 refl
 
--- no cell stays where none is tested
+-- no cell is protected if none is tested
 pub kept_free : (mask cell : ℕ) → is_testing mask ≡ false → is_kept mask cell ≡ false
 unfolding is_kept
 kept_free mask cell free = rw free refl

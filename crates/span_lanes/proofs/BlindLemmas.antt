@@ -1,4 +1,4 @@
--- A chunk without a hazard reads nothing that an earlier lane of it writes.
+-- A chunk without a hazard reads no cell that an earlier lane of it writes.
 use Rattle.std.proofs.Common.{◌≡◌, ◌<◌, ◌≤◌, ℕ, zero, suc, List, None, Some, Bool, true, false, cond, ltb, eqb, ◌+◌}
 use Rattle.std.proofs.Common.{◌-◌, ◌*◌, ◌%◌, map, length, get_or, refl, ap, ◌∙◌, inl, inr, arith}
 use Rattle.std.specs.List.{range_with_len}
@@ -91,7 +91,7 @@ texel_same t u v m now x y j k agree room lt hazard_free none = choose (ltb t.pa
         ap (λ (h : ℕ). at_cell now (clut_place t.clut (index_at t.page t.window u h))) direct
         ∙ entry (at_cell m (texel_place t.page t.window u v)) (low_depth t.page.depth e)
 
--- the texels of a chunk, by cell
+-- the texels of a chunk, from their cells
 module _ (t : Texture) (f : ℕ → Cell) (x y first k : ℕ) (room : x + first + k ≤ 1024)
     (none : HasTextureHazard (map f (range_with_len first k)) (palette_of t) (target x y first) k → ⊥)
     (m now : List ℕ) (j : ℕ) (lt : j < k) (agree : AgreesApart (1024 * y + (x + first)) j m now) where

@@ -1,4 +1,4 @@
--- Cells of a list against lanes that are numbered.
+-- A list of cells and numbered lanes.
 use Rattle.std.proofs.Common.{◌≡◌, ◌<◌, ℕ, zero, suc, List, [], ◌∷◌, ◌++◌, Option, ◌+◌, ◌-◌, ◌*◌, map, refl, sym, ap}
 use Rattle.std.proofs.Common.{◌∙◌, arith, add-one}
 use Rattle.std.specs.List.{range_with_len}
@@ -16,7 +16,7 @@ cells_append by_cell mask [] more m = refl
 cells_append by_cell mask (cell ∷ cells) more m = cells_append by_cell mask cells more
     (draw_at mask (1024 * cell.y + cell.x) (by_cell cell m) m)
 
--- one cell more
+-- one more cell
 pub row_more : (x y n : ℕ) → row_cells x y (suc n) ≡ row_cells x y n ++ cell_in_row x y n ∷ []
 unfolding row_cells
 row_more x y n =
@@ -27,7 +27,7 @@ pub row_none : (x y : ℕ) → row_cells x y 0 ≡ []
 unfolding row_cells
 row_none x y = refl
 
--- pixels that agree at the cells of a row are drawn alike there
+-- pixels that are equal at the cells of a row are drawn with the same result there
 module _ (one two : Cell → List ℕ → Option ℕ) (mask x y : ℕ) where
   last_same : (n : ℕ) (now : List ℕ) → one (cell_in_row x y n) now ≡ two (cell_in_row x y n) now
       → drawn_cells one mask (cell_in_row x y n ∷ []) now ≡ drawn_cells two mask (cell_in_row x y n ∷ []) now

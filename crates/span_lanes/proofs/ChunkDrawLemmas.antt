@@ -1,4 +1,4 @@
--- Spans that are drawn part by part, where each part spares some steps.
+-- Spans that are drawn chunk by chunk, each chunk in some steps fewer than its cost.
 use Rattle.std.proofs.Common.{◌≡◌, ◌<◌, ◌≤◌, ℕ, zero, suc, List, ◌+◌, ◌-◌, ◌*◌, ◌/◌}
 use Rattle.std.proofs.Common.{min, length, sym, subst, arith, ◌∙◌}
 use Rattle.span_lanes.specs.declared.chunk.Chunk.{Chunk}
@@ -53,7 +53,7 @@ sample_stays is long = record { can = draw_stays is.can long; texture = is.textu
 pub none_spared : {steps most : ℕ} → steps + 0 ≤ most → steps ≤ most
 none_spared le = omega (arith, le)
 
--- a span by its number of cells is the cells of its row
+-- drawing a span by cell numbers draws the cells of its row
 pub draws_cells : (s : Span) (before after : Stage) → DrawsSpan s 0 before after → DrawsCells s before after
 draws_cells s before after drawn = record {
   cells = drawn.cells ∙ span_law s s.n before.m;

@@ -20,7 +20,7 @@ drawn_start span before m = record {
   long = refl;
 }
 
--- none is drawn yet, and some steps were taken
+-- no chunk is drawn yet; `steps` steps were taken before
 pub drawn_begun : (span : Span) (before steps : ℕ) (m : List ℕ) → steps ≤ before → AreDrawn span 0 before steps m m
 drawn_begun span before steps m le = record {
   cells = (drawn_start span before m).cells;
@@ -28,7 +28,7 @@ drawn_begun span before steps m le = record {
   long = refl;
 }
 
--- one chunk more
+-- one more chunk
 pub drawn_next : (span : Span) (c before steps after : ℕ) (m now next : List ℕ) (first k : ℕ)
     → AreDrawn span c before steps m now
     → first ≡ 16 * c → k ≡ min (span.n - 16 * c) 16 → 16 * c < span.n

@@ -1,4 +1,4 @@
--- Colours by their channels.
+-- Colours from their channels.
 use Rattle.std.proofs.Common.{◌≡◌, ◌≤◌, ◌<◌, ℕ, ◌+◌, ◌*◌, ◌%◌, ◌^◌, ◌∙◌, ap, refl, Bool, false, List, map, length}
 use Rattle.std.proofs.Common.{get_or, pos, ℤ, to_z, of_z, w16, SFits, arith, [], ◌/◌}
 use Rattle.std.specs.List.{range_with_len}
@@ -64,7 +64,7 @@ no_shift dither x y none = rw none refl
 abbrev pub dither_row : ℕ → List ℤ
 dither_row p = map (λ i. dither_offset (p % 4 + i) (p / 4)) (range_with_len 0 16)
 
--- rows of sixteen of them
+-- rows of sixteen dither offsets
 pub row_read : (rows : List (List ℤ)) → rows ≡ map dither_row (range_with_len 0 16) → (p i : ℕ) → p < 16 → i < 16
     → get_or (get_or rows p []) i (pos 0) ≡ dither_offset (p % 4 + i) (p / 4)
 row_read rows same p i lt less =
@@ -76,7 +76,7 @@ pub row_long : (rows : List (List ℤ)) → rows ≡ map dither_row (range_with_
 row_long rows same p lt =
     rw (same, get_or-map-range_with_len dither_row 0 16 p p [] lt (omega arith)) refl
 
--- they repeat after four cells
+-- dither offsets repeat after four cells
 pub shift_again : (dither : Bool) (x next y j : ℕ) → next % 4 ≡ (x + j) % 4 → dither_of dither (x + j) y
     ≡ dither_of dither next y
 unfolding dither_of

@@ -1,4 +1,4 @@
--- A palette that is drawn by its entries.
+-- Texels drawn through a modulated palette.
 use Rattle.std.proofs.Common.{◌≡◌, ◌≢◌, ◌≤◌, ◌<◌, ℕ, List, ◌+◌, ◌*◌, sym, ◌∙◌, arith, Option, None, Some}
 use Rattle.std.proofs.lemmas.List.FromFn.{get_or-map-range_with_len}
 use Rattle.std.specs.Prelude.{IfSome, slice_index}
@@ -17,7 +17,7 @@ use Rattle.span_lanes.specs.ColoredClut.{entries_of}
 use Rattle.texel_lanes.specs.Table.{entries_in, entry_at}
 use Rattle.span_lanes.proofs.BlindLemmas.{same_cell}
 
--- cells of another row leave it as it is
+-- writes to another row do not change the palette
 pub swatches_kept : (t : Texture) (x y k : ℕ) (m now : List ℕ) (colored_clut : ColoredClut)
     → AgreesApart (1024 * y + x) k m now → x + k ≤ 1024 → clut_row t.clut ≢ y
     → IsColoredClutOf t m colored_clut → IsColoredClutOf t now colored_clut
@@ -52,7 +52,7 @@ pub palette_kept : (t : Texture) (m : List ℕ) (color : ℕ) (last : Option Col
 palette_kept t m color None colored entries under = absurd under
 palette_kept t m color (Some s) colored entries under = palette_is t m color s colored entries under.0 under.1
 
--- ---- a palette that a pen shows, and keeps as a table
+-- ---- the palette that a drawer shows as a list and stores as a table
 
 entry_in : (table : Table) (i : ℕ) → i < 16 → slice_index (entries_in table) i ≡ entry_at table i
 unfolding entries_in

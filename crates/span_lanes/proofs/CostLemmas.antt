@@ -1,4 +1,4 @@
--- What a span costs at most.
+-- An upper bound of the cost of a span.
 use Rattle.std.proofs.Common.{◌≡◌, ◌≤◌, ℕ, zero, suc, List, Option, None, Some, Bool, true, false, cond, ltb, ◌+◌, ◌-◌}
 use Rattle.std.proofs.Common.{◌*◌, ◌/◌, min, refl, subst, add-one, arith}
 use Rattle.texel_lanes.specs.declared.texture.Texture.{Texture}
@@ -48,7 +48,7 @@ cost_law span =
     let all : min (16 * ((span.n + 15) / 16)) span.n ≡ span.n = omega arith in
     rw all at (chunks_small span ((span.n + 15) / 16) (omega arith))
 
--- one chunk more
+-- one more chunk
 pub cost_more : (span : Span) (at k before now next : ℕ) → k ≡ min (span.n - 16 * at) 16
     → now ≤ before + chunks_cost span at → next ≤ now + chunk_cost span (16 * at) k
     → next ≤ before + chunks_cost span (at + 1)
@@ -67,7 +67,7 @@ pub toned_cost : (span : Span) (first k : ℕ) → texture_of span.paint ≡ Non
 unfolding has_hazard
 toned_cost span first k e = rw e refl
 
--- chunks whose texels are known
+-- chunks whose texel cells are known
 pub textured_cost : (span : Span) (t : Texture) (first k : ℕ) (cells : List Cell) → texture_of span.paint ≡ Some t
     → paint_texels span.paint t span.x span.y first k ≡ cells
     → chunk_cost span first k ≡ steps_of (has_texture_hazard cells (palette_of t) (target span.x span.y first) k)
@@ -75,7 +75,7 @@ pub textured_cost : (span : Span) (t : Texture) (first k : ℕ) (cells : List Ce
 unfolding has_hazard
 textured_cost span t first k cells e same = rw (e, same) refl
 
--- those of which it is known whether they read what they write
+-- chunks for which it is known whether they have a hazard
 pub free_cost : (span : Span) (t : Texture) (first k : ℕ) → texture_of span.paint ≡ Some t
     → has_hazard span first k ≡ false → chunk_cost span first k ≡ 2 + texel_steps t.page.depth * k
 free_cost span t first k e free = rw (free, e) refl
@@ -88,6 +88,6 @@ one_step : (hazard : Bool) (d k : ℕ) → 1 ≤ k → 1 ≤ steps_of hazard d k
 one_step true d k some = grind arith
 one_step false d k some = omega arith
 
--- a chunk may take a step
+-- a chunk costs at least one step
 pub chunk_step : (span : Span) (first k : ℕ) → 1 ≤ k → 1 ≤ chunk_cost span first k
 chunk_step span first k some = one_step (has_hazard span first k) (paint_steps span.paint) k some

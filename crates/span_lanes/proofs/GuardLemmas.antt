@@ -1,4 +1,4 @@
--- The cells of the texels of a chunk, by its lanes.
+-- The cells of the texels of a chunk, lane by lane.
 use Rattle.std.proofs.Common.{◌≡◌, ◌<◌, ◌≤◌, ℕ, zero, suc, ◌+◌, List, [], ◌∷◌, ◌++◌, map, get_or, refl, sym, ap, ◌∙◌}
 use Rattle.std.proofs.Common.{add-one, arith}
 use Rattle.std.specs.List.{range_with_len}
@@ -12,7 +12,7 @@ use Rattle.texel_lanes.specs.declared.texture.Texture.{Texture}
 use Rattle.span_lanes.specs.Lanes.{HasCoordinates, columns_from, rows_from}
 use Rattle.span_lanes.specs.Guard.{paint_texel, paint_texels, texel_cells}
 
--- two lists of n cells that are the same number by number
+-- two lists of n cells that are equal member by member
 mapped_same : (f g : ℕ → Cell) (first n : ℕ) → ((i : ℕ) → i < n → f (first + i) ≡ g i)
     → map f (range_with_len first n) ≡ map g (range_with_len 0 n)
 mapped_same f g first zero same = refl
@@ -26,7 +26,7 @@ mapped_same f g first (suc n) same =
     ∙ sym (map-range_with_len_more g 0 n n (omega arith))
     ∙ ap (λ (k : ℕ). map g (range_with_len 0 k)) (add-one n)
 
--- the cells of texels by their coordinates are those of the paint
+-- the cells computed from texel coordinates are those of the paint
 pub cells_same : (paint : Paint) (t : Texture) (x y first : ℕ) (us vs : List ℕ) (k n : ℕ)
     → HasCoordinates (columns_from paint (x + first) y first) (rows_from paint (x + first) y first) n us vs → k ≤ n
     → paint_texels paint t x y first k ≡ texel_cells t us vs k
@@ -43,7 +43,7 @@ cells_same paint t x y first us vs k n has le =
         let down = rw column at (has.v i (omega (arith, lt))) in
         rw (across, down) refl
 
--- by their places they are, too
+-- the same for cells given by their columns and rows
 pub lanes_same : (t : Texture) (us vs xs ys : List ℕ) (k : ℕ) → k ≤ 16
     → EachLane (λ i. get_or xs i 0 ≡ (texel_place t.page t.window (get_or us i 0) (get_or vs i 0)).x)
     → EachLane (λ i. get_or ys i 0 ≡ (texel_place t.page t.window (get_or us i 0) (get_or vs i 0)).y)

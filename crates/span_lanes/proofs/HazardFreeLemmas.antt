@@ -1,4 +1,4 @@
--- Spans that lie apart from their texels and from their palette.
+-- Spans that have no cell of their texture or palette.
 use Rattle.std.proofs.Common.{◌≡◌, ◌≢◌, ◌<◌, ◌≤◌, ℕ, None, Some, Bool, true, false, cond, eqb, ◌+◌, ◌-◌, ◌*◌, ◌/◌}
 use Rattle.std.proofs.Common.{◌⊎◌, inl, inr, map, refl, ◌∙◌, arith}
 use Rattle.std.specs.Option.{MatchOption}
@@ -16,7 +16,7 @@ use Rattle.texel_lanes.specs.Texture.{IsTexture, clut_row}
 use Rattle.span_lanes.specs.Shade.{IsSpan, texture_of}
 use Rattle.span_lanes.specs.Guard.{paint_texel, paint_texels, target, clut_strip, page_width, IsHazardFree, LiesOutsidePage}
 
--- a coordinate under a window is within the page
+-- a coordinate after the window is within the page
 pub windowed_small : (mask off v : ℕ) → mask ≤ 31 → windowed mask off v < 256
 unfolding windowed
 windowed_small mask off v few =

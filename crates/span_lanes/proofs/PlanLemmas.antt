@@ -1,4 +1,4 @@
--- What is one for all chunks of a textured span.
+-- The values that all chunks of a textured span share.
 use Rattle.std.proofs.Common.{◌≡◌, ◌<◌, ◌≤◌, ℕ, List, Some, false, ◌+◌, ◌*◌, get_or, length, ap, ◌∙◌, arith}
 use Rattle.overlap_guard.proofs.TestLemmas.{texture_iff, false_of}
 use Rattle.overlap_guard.specs.Hazard.{has_texture_hazard}
@@ -18,7 +18,7 @@ use Rattle.span_lanes.specs.TexCoords.{coord_at, AreTexCoords}
 use Rattle.span_lanes.specs.Paints.{paint_u, paint_v, chunk_u, chunk_v}
 use Rattle.span_lanes.proofs.CostLemmas.{free_cost}
 
--- the coordinates of a chunk by those of its span
+-- the coordinates of a chunk, from those of its span
 pub coordinates_here : (paint : Paint) (x y n first k : ℕ) (coords : TexCoords) (us vs : List ℕ) → AreTexCoords paint x y n coords
     → first + k ≤ n → k ≤ 16
     → AreCoordinates us → AreCoordinates vs
@@ -34,7 +34,7 @@ coordinates_here paint x y n first k coords us vs is within few across down u v 
       ∙ ap (λ (c : ℕ). paint_v paint c y (first + j)) (omega arith);
 }
 
--- the texels of a chunk by their coordinates
+-- the texels of a chunk, from their coordinates
 pub texels_here : (p : Chunk) (t : Texture) (us vs m lanes : List ℕ)
     → HasCoordinates (chunk_u p) (chunk_v p) p.k us vs → length lanes ≡ 16
     → ((j : ℕ) → j < p.k → get_or lanes j 0 ≡ texel t (get_or us j 0) (get_or vs j 0) m)
@@ -44,7 +44,7 @@ texels_here p t us vs m lanes at long read = record {
   value = λ j lt. rw (at.u j lt, at.v j lt) at (read j lt);
 }
 
--- a chunk that lies apart reads nothing that it writes
+-- a chunk of a span without a hazard has none
 pub apart_free : (span : Span) (t : Texture) (first k : ℕ) → IsHazardFree span → first + k ≤ span.n
     → texture_of span.paint ≡ Some t → has_hazard span first k ≡ false
 unfolding has_hazard
@@ -54,7 +54,7 @@ apart_free span t first k hazard_free within of_paint =
     (texture_iff (paint_texels span.paint t span.x span.y first k) (palette_of t) (target span.x span.y first) k)
     (λ h. hazard_free.free first k within (rw of_paint h)))
 
--- the cost of a chunk that lies apart
+-- the cost of a chunk of a span without a hazard
 pub apart_cost : (span : Span) (t : Texture) (first k : ℕ) → IsHazardFree span → first + k ≤ span.n → texture_of span.paint
     ≡ Some t
     → chunk_cost span first k ≡ 2 + texel_steps t.page.depth * k

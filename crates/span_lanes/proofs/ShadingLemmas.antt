@@ -1,4 +1,4 @@
--- The colours of a span by those of its paint.
+-- The colours of a span, from those of its paint.
 use Rattle.std.proofs.Common.{◌≡◌, ◌≤◌, ℕ, ◌+◌, IsTrue, pos, arith}
 use Rattle.edge_walk.specs.Triangle.{Corners, is_inside}
 use Rattle.edge_walk.specs.declared.plane.Plane.{Plane}

@@ -32,7 +32,7 @@ written : (mask cell t : ℕ) → is_testing mask ≡ false → written_over mas
 unfolding is_kept
 written mask cell t never = rw never refl
 
--- one colour that is neither dithered nor blended, over cells that are not tested
+-- one colour, neither dithered nor blended, over cells that are not tested
 pub solid_flat : (span : Span) (color t h : ℕ) → span.paint ≡ Flat color
     → (not (span.brush.semi || is_testing span.brush.mask) && not span.brush.dither) ≡ true
     → t ≡ tone_of (red_of color) (green_of color) (blue_of color) (pos 0) → t < 2 ^ 15 → h ≡ forced span.brush.mask t

@@ -22,7 +22,7 @@ use Rattle.span_lanes.specs.Paints.{paint_color, paint_u, paint_v}
 pub as_it_is : (h : ℕ) → h < 2 ^ 16 → h ≡ packed_pixel h (is_high h) false
 as_it_is h few = grind (arith, nat_tests)
 
--- what is drawn as it is
+-- raw texels are not modulated
 pub raw_front : (raw : Bool) (color : ℕ) (shift : ℤ) (t h : ℕ) → IsTrue raw → h ≡ modulated_texel raw color shift t → h ≡ t
 unfolding modulated_texel
 raw_front true color shift t h is front = front
@@ -46,7 +46,7 @@ pub shade_textured : (span : Span) (t : Texture) (i x : ℕ) (m : List ℕ) → 
 unfolding shade
 shade_textured span t i x m is e = rw e (paint_textured span.paint t span.brush (span.x + i) span.y i m is)
 
--- a lane whose texel may be none
+-- a lane whose texel may be transparent
 pub textured_lane : (mask cell : ℕ) (pixel : Option ℕ) (brush : Brush) (raw : Bool) (color : ℕ) (shift : ℤ)
     (t p front b h : ℕ)
     → pixel ≡ textured_pixel brush raw color shift cell t

@@ -1,4 +1,4 @@
--- Texels that stand side by side.
+-- Contiguous texels.
 use Rattle.std.proofs.Common.{◌≡◌, ◌<◌, ◌≤◌, ℕ, List, Bool, false, ◌+◌, ◌-◌, ◌*◌, ◌/◌, ◌%◌, get_or, refl, sym, ◌∙◌}
 use Rattle.std.proofs.Common.{pos, IsTrue, arith}
 use Rattle.texture_page.specs.Page.{texel_place, clut_place, windowed, index_in}
@@ -40,7 +40,7 @@ whole_texel span t s x i h m is deep lt at read =
     (texel_direct t (paint_u span.paint x span.y i) (paint_v span.paint x span.y i) m
     (texel_place t.page t.window (paint_u span.paint x span.y i) (paint_v span.paint x span.y i)) deep refl)
 
--- a texel of four bits, by its entry
+-- a texel of four bits, from its palette entry
 pub four_texel : (span : Span) (t : Texture) (s : TexelRun) (x i e : ℕ) (m : List ℕ) → IsTexelRun span t s
     → t.page.depth ≡ 0 → i < span.n → x ≡ span.x + i
     → e ≡ get_or m
@@ -55,7 +55,7 @@ four_texel span t s x i e m is four lt at entry =
     texel_four t _ _ m (s.u + i) (get_or m (1024 * s.y + (t.page.x + (s.u + i) / 4)) 0) e four (sym column)
     (rw (four, column, row, here) refl) entry
 
--- a texel of eight bits, by its entry
+-- a texel of eight bits, from its palette entry
 pub eight_texel : (span : Span) (t : Texture) (s : TexelRun) (x i e : ℕ) (m : List ℕ) → IsTexelRun span t s
     → t.page.depth ≡ 1 → i < span.n → x ≡ span.x + i
     → e ≡ at_cell m
@@ -69,7 +69,7 @@ eight_texel span t s x i e m is eight lt at entry =
     texel_eight t _ _ m (s.u + i) (get_or m (1024 * s.y + (t.page.x + (s.u + i) / 2)) 0) e eight (sym column)
     (rw (eight, column, row, here) refl) entry
 
--- where the texels of a span stand side by side
+-- the position of the contiguous texels of a span
 pub rising_stretch : (span : Span) (t : Texture) (u v : ℕ) (s : TexelRun) → IsRising span u v → t.window.mask_x ≡ 0
     → s.u ≡ u → s.y ≡ t.page.y + windowed t.window.mask_y t.window.off_y v → s.y ≤ t.page.y + 255 → u + span.n ≤ 256
     → (2 ≤ t.page.depth → t.page.x + (u + span.n) ≤ 1024)
@@ -95,7 +95,7 @@ row_rising span t color u v flip paint rises = record {
   row = λ i lt. rw paint refl;
 }
 
--- those of a row of a triangle whose texels are as large as cells
+-- the texels of a row of an unscaled triangle
 pub tri_rising : (span : Span) (tri : Corners) (t : Texture) (u v : ℕ) → span.paint ≡ TexturedTri tri t
     → IsSpan span → IsUnscaled tri → u ≡ attribute_in tri 3 span.x span.y → v ≡ attribute_in tri 4 span.x span.y
     → IsRising span u v
@@ -121,7 +121,7 @@ plane_small tri which x y i plane is first inside =
     let value = rw here at (is.lines (pos x) (pos y) first i 0 (omega arith)) in
     omega (arith, value inside)
 
--- those of a triangle whose texels stand side by side in all rows do not wrap
+-- the texels of a triangle that are contiguous in all rows do not wrap
 pub tri_in_page : (span : Span) (tri : Corners) (t : Texture) (plane : Plane) → span.paint ≡ TexturedTri tri t
     → IsSpan span → IsUnscaled tri → IsPlane tri 3 plane → attribute_in tri 3 span.x span.y + span.n ≤ 256
 tri_in_page span tri t plane paint is same across =

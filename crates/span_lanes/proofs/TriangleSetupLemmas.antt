@@ -1,4 +1,4 @@
--- Rows of triangles with a texture.
+-- Rows of textured triangles.
 use Rattle.std.proofs.Common.{ap, ℕ, List}
 use Rattle.vram_store.specs.Vram.{height_of}
 use Rattle.span_lanes.specs.declared.clip_rect.ClipRect.{ClipRect}
@@ -14,7 +14,7 @@ use Rattle.span_lanes.specs.TriangleSetup.{CanDrawSetup, IsSetupOf}
 use Rattle.span_lanes.specs.TexelRun.{IsTexelRun}
 use Rattle.span_lanes.specs.declared.texel_run.TexelRun.{TexelRun}
 
--- cells of a block that lies apart can be drawn
+-- spans in a clip rectangle without a hazard can be drawn
 pub can_draw_row : (setup : TriangleSetup) (b : ClipRect) (span : Span) (m : List ℕ) → IsSetupOf (state_of span) setup
     → IsClipHazardFree b setup.texture → IsSpan span → LiesIn (height_of m) span → IsInClip b span.x span.y span.n
     → CanDrawSetup setup span m
@@ -25,7 +25,7 @@ can_draw_row setup b span m ready hazard_free is height clip_rect = record {
   palette = hazard_free.palette span clip_rect;
 }
 
--- and under their colour, where the palette can be coloured once
+-- the same under one colour, if the palette can be modulated once
 pub can_color_row : (setup : TriangleSetup) (span : Span) (m : List ℕ) (color : ℕ) (texel_run : TexelRun)
     → CanDrawSetup setup span m → CanCacheTriangle setup.tri setup.texture setup.brush color
     → IsTexelRun span setup.texture texel_run

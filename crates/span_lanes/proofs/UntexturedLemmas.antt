@@ -38,7 +38,7 @@ unfolding flat_pixel
 toned_is brush color shift back t h tone e low =
     ap (λ (n : ℕ). Some n) (packed_low _ h (e ∙ ap (blended_if brush.semi brush.mode back) tone) low)
 
--- a lane whose pixel is there
+-- a lane that has a pixel
 pub toned_lane : (brush : Brush) (cell back : ℕ) (pixel : Option ℕ) (p w b h : ℕ) → pixel ≡ Some p
     → DoesFor brush cell back → b ≡ 1 → w ≡ forced brush.mask p → h ≡ cond (is_kept brush.mask back) back w
     → IsLane (written_over brush.mask cell pixel) b h cell

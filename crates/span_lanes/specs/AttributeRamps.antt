@@ -12,23 +12,23 @@ pub record AreCoordRamps (tri : Corners) (coord_planes : CoordRamps) : Type 0 wh
   pub u : IsPlane tri 3 coord_planes.u.plane
   pub v : IsPlane tri 4 coord_planes.v.plane
 
--- its channels
+-- the colour channels of a triangle
 pub record AreColorRamps (tri : Corners) (colors : ColorRamps) : Type 0 where
   pub red : IsPlane tri 0 colors.red.plane
   pub green : IsPlane tri 1 colors.green.plane
   pub blue : IsPlane tri 2 colors.blue.plane
 
--- the coordinates of a paint that is a triangle with a texture
+-- the texel coordinates of a paint that is a textured triangle
 abbrev pub AreCoordRampsOf : Paint → CoordRamps → Type 0
 AreCoordRampsOf (TexturedTri tri texture) coord_planes = AreCoordRamps tri coord_planes
 AreCoordRampsOf paint coord_planes = ⊥
 
--- its channels
+-- the colour channels of such a paint
 abbrev pub AreColorsOf : Paint → ColorRamps → Type 0
 AreColorsOf (TexturedTri tri texture) colors = AreColorRamps tri colors
 AreColorsOf paint colors = ⊥
 
--- both
+-- coordinates and channels of such a paint
 pub record AreAttributeRampsOf (paint : Paint) (ramps : AttributeRamps) : Type 0 where
   pub coord_planes : AreCoordRampsOf paint ramps.coord_planes
   pub colors : AreColorsOf paint ramps.colors

@@ -1,4 +1,4 @@
--- Pens for the triangles with a texture that lie in a block apart from it.
+-- Row drawers of textured triangles in a clip rectangle without a hazard.
 use Rattle.std.specs.Prelude.{ℕ, ◌≡◌, ◌≤◌, ◌+◌, ◌/◌, ◌&&◌, not, false, IfSome, Option, Some}
 use Rattle.edge_walk.specs.Attribute.{IsUnscaled}
 use Rattle.edge_walk.specs.Triangle.{Corners}
@@ -21,20 +21,21 @@ use Rattle.span_lanes.specs.Shade.{texture_of}
 use Rattle.span_lanes.specs.TriangleSetup.{IsSetupOf}
 use Rattle.span_lanes.specs.ColoredClut.{IsColoredClut}
 
--- a page whose texels of any column, and those that are read with them, stand in cells that do not wrap
+-- the cells of a page do not wrap, nor do the sixteen cells after them at depths 0 and 1
 pub record DoesNotWrap (t : Texture) : Type 0 where
   pub wholes : 2 ≤ t.page.depth → t.page.x + 256 ≤ 1024
   pub eights : t.page.depth ≡ 1 → t.page.x + 256 / 2 + 16 ≤ 1024
   pub fours : t.page.depth ≡ 0 → t.page.x + 256 / 4 + 16 ≤ 1024
 
--- the texels of a triangle stand side by side in each row, wherever that is in their page
+-- the texels of a triangle are contiguous in each row, wherever the row is in the page
 pub record AreContiguous (tri : Corners) (t : Texture) : Type 0 where
   pub texture : IsTexture t
   pub clear : t.window.mask_x ≡ 0
   pub room : DoesNotWrap t
   pub unscaled : IsUnscaled tri
 
--- the palette can be coloured once under this colour, which is that of all cells, and pixels are stored as they are
+-- the palette can be modulated once by this colour, which all cells have, and pixels are stored without test or
+-- blending
 pub record CanCacheTriangle (tri : Corners) (t : Texture) (brush : Brush) (color : ℕ) : Type 0 where
   pub one : IsShadingOf tri (OneColor color)
   pub depth : t.page.depth ≡ 0
@@ -42,26 +43,26 @@ pub record CanCacheTriangle (tri : Corners) (t : Texture) (brush : Brush) (color
   pub mask : brush.mask ≡ 0
   pub semi : brush.semi ≡ false
 
--- rows of a triangle may be drawn in a way
+-- rows of a triangle may be drawn with this row method
 abbrev pub IsRowMethod : Corners → Texture → Brush → RowMethod → Type 0
 IsRowMethod tri t brush (CachedClut color) = AreContiguous tri t × CanCacheTriangle tri t brush color
 IsRowMethod tri t brush Contiguous = AreContiguous tri t
 IsRowMethod tri t brush (FlatTexelsByCoords color) = IsShadingOf tri (OneColor color)
 IsRowMethod tri t brush GouraudTexels = Unit {0}
 
--- in a block that lies apart from the texture
+-- as IsRowMethod, in a clip rectangle that has no hazard with the texture
 pub record SuitsMethod (tri : Corners) (t : Texture) (brush : Brush) (b : ClipRect) (method : RowMethod) : Type 0 where
   pub hazard_free : IsClipHazardFree b t
   pub is_way : IsRowMethod tri t brush method
 
--- ---- the four pens
+-- ---- the four drawers
 
--- each has a span of its triangle, and a block apart
+-- a span with a texture, in a clip rectangle without a hazard
 pub record IsInHazardFreeClip (span : Span) (t : Texture) (b : ClipRect) : Type 0 where
   pub texture : texture_of span.paint ≡ Some t
   pub hazard_free : IsClipHazardFree b t
 
--- the palette is coloured once
+-- the drawer that caches the modulated palette
 pub record IsCachedClutDrawer (span : Span) (setup : TriangleSetup) (color : ℕ) (b : ClipRect) (last : Option ColoredClut) : Type 0 where
   pub ready : IsSetupOf (state_of span) setup
   pub hazard_free : IsClipHazardFree b setup.texture
@@ -69,20 +70,20 @@ pub record IsCachedClutDrawer (span : Span) (setup : TriangleSetup) (color : ℕ
   pub suits : CanCacheTriangle setup.tri setup.texture setup.brush color
   pub colored : IfSome last IsColoredClut
 
--- texels stand side by side
+-- the drawer of contiguous texels
 pub record IsContiguousDrawer (span : Span) (setup : TriangleSetup) (b : ClipRect) (last : Option ColoredClut) : Type 0 where
   pub ready : IsSetupOf (state_of span) setup
   pub hazard_free : IsClipHazardFree b setup.texture
   pub contiguous : AreContiguous setup.tri setup.texture
   pub colored : IfSome last IsColoredClut
 
--- by the coordinates of each texel, under one colour
+-- the drawer that computes the coordinates of each texel, under one colour
 pub record IsFlatTexelsDrawer (span : Span) (t : Texture) (color : ℕ) (coord_planes : CoordRamps) (b : ClipRect) : Type 0 where
   pub is : IsInHazardFreeClip span t b
   pub hue : IsShadingFor span.paint (OneColor color)
   pub slopes_are : AreCoordRampsOf span.paint coord_planes
 
--- under several
+-- the drawer that computes coordinates and colours of each texel
 pub record IsGouraudTexelsDrawer (span : Span) (t : Texture) (ramps : AttributeRamps) (b : ClipRect) : Type 0 where
   pub is : IsInHazardFreeClip span t b
   pub mix_is : AreAttributeRampsOf span.paint ramps

@@ -1,4 +1,4 @@
--- A palette of sixteen entries as it is drawn.
+-- A palette of sixteen entries, modulated by one colour.
 use Rattle.std.specs.Prelude.{ℕ, ◌≡◌, ◌≢◌, ◌&&◌, not, false, pos, List, slice_index}
 use Rattle.std.specs.Prelude.{Bool, Option, None, Some, IfSome}
 use Rattle.px_num.specs.Lanes.{EachLane}
@@ -13,7 +13,7 @@ use Rattle.span_lanes.specs.Guard.{IsHazardFree}
 use Rattle.span_lanes.specs.Shade.{modulated_texel, texture_of}
 use Rattle.texel_lanes.specs.Table.{IsTable, entries_in, entry_at}
 
--- the entries of a texture's palette, and what a colour makes of each without dither
+-- the entries of a texture's palette, and each modulated by one colour without dither
 pub record IsColoredClutOf (t : Texture) (m : List ℕ) (colored_clut : ColoredClut) : Type 0 where
   pub entries : IsTable colored_clut.entries
   pub modulated : IsTable colored_clut.modulated
@@ -21,22 +21,22 @@ pub record IsColoredClutOf (t : Texture) (m : List ℕ) (colored_clut : ColoredC
   pub front : EachLane (λ i. entry_at colored_clut.modulated i
       ≡ modulated_texel t.raw colored_clut.color (pos 0) (entry_at colored_clut.entries i))
 
--- what a colour makes of any sixteen entries without dither
+-- any sixteen entries, each modulated by one colour without dither
 pub record IsColoredClut (colored_clut : ColoredClut) : Type 0 where
   pub entries : IsTable colored_clut.entries
   pub modulated : IsTable colored_clut.modulated
   pub front : EachLane (λ i. entry_at colored_clut.modulated i
       ≡ modulated_texel colored_clut.raw colored_clut.color (pos 0) (entry_at colored_clut.entries i))
 
--- the entries of a table are those of a texture's palette in video memory
+-- the entries of a table are those of the texture's palette in video memory
 abbrev pub AreClutEntries : Texture → List ℕ → Table → Type 0
 AreClutEntries t m entries = EachLane (λ i. entry_at entries i ≡ at_cell m (clut_place t.clut i))
 
--- sixteen entries are those of a texture's palette in video memory
+-- sixteen entries are those of the texture's palette in video memory
 abbrev pub IsPaletteOf : Texture → (m entries : List ℕ) → Type 0
 IsPaletteOf t m entries = EachLane (λ i. slice_index entries i ≡ at_cell m (clut_place t.clut i))
 
--- the entries that are kept, if any, are those of the palette of a paint's texture in video memory
+-- the cached entries, if any, are those of the palette of a paint's texture in video memory
 abbrev pub AreClutEntriesFresh : Paint → List ℕ → Option (List ℕ) → Type 0
 AreClutEntriesFresh paint m palette = IfSome palette (λ entries. IfSome (texture_of paint) (λ t. IsPaletteOf t m entries))
 
@@ -44,29 +44,29 @@ abbrev pub entries_of : Option ColoredClut → Option (List ℕ)
 entries_of None = None
 entries_of (Some colored_clut) = Some (entries_in colored_clut.entries)
 
--- the palette that is kept, if any, is that of a paint's texture in video memory, under its colour
+-- the cached palette, if any, is that of a paint's texture in video memory, modulated by its colour
 pub record IsCached (paint : Paint) (m : List ℕ) (last : Option ColoredClut) : Type 0 where
   pub colored : IfSome last IsColoredClut
   pub fresh : IfSome last (λ s. IfSome (texture_of paint) (λ t. AreClutEntries t m s.entries))
 
--- the palette of a texture in video memory under a colour
+-- the palette of a texture in video memory, modulated by a colour
 pub record IsPalette (t : Texture) (m : List ℕ) (shading : ℕ) (s : ColoredClut) : Type 0 where
   pub colored : IsColoredClut s
   pub colored_clut : IsColoredClutOf t m s
   pub raw : s.raw ≡ t.raw
   pub color : s.color ≡ shading
 
--- one is kept
+-- such a palette is cached
 abbrev pub HasPalette : Texture → (m : List ℕ) → (shading : ℕ) → Option ColoredClut → Type 0
 HasPalette t m shading None = ⊥
 HasPalette t m shading (Some s) = IsPalette t m shading s
 
--- what is kept is under this colour, or as it is
+-- the cached palette is modulated by this colour, or raw
 abbrev pub IsColoredBy : Option ColoredClut → (raw : Bool) → (color : ℕ) → Type 0
 IsColoredBy None raw color = ⊥
 IsColoredBy (Some s) raw color = (s.raw ≡ raw) × (s.color ≡ color)
 
--- a span whose palette of sixteen entries can be coloured once for all its cells
+-- a span whose palette of sixteen entries can be modulated once for all its cells
 pub record CanCacheClut (span : Span) (t : Texture) : Type 0 where
   pub hazard_free : IsHazardFree span
   pub depth : t.page.depth ≡ 0

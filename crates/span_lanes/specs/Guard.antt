@@ -1,4 +1,5 @@
--- When a chunk of a span reads what it writes itself (our own rule: every pixel reads video memory as it is then).
+-- When a chunk of a span reads a cell that it writes (our own rule: every pixel reads video memory as it is when that
+-- pixel is drawn).
 use Rattle.std.specs.Prelude.{ℕ, ◌≡◌, ◌≢◌, ◌<◌, ◌≤◌, ◌⊎◌, ◌+◌, ◌*◌, ◌%◌, ◌==◌, Bool, false, List, Option, None, Some}
 use Rattle.std.specs.Prelude.{if◌then◌else◌, map, slice_index}
 use Rattle.std.specs.Option.{MatchOption}
@@ -18,14 +19,14 @@ use Rattle.span_lanes.specs.Paints.{paint_u, paint_v}
 abbrev pub paint_texel : Paint → Texture → ℕ → ℕ → ℕ → Cell
 paint_texel paint t x y i = texel_place t.page t.window (paint_u paint (x + i) y i) (paint_v paint (x + i) y i)
 
--- those of n cells from a first one on
+-- the texel cells of n cells of the row, from cell `first` on
 unfoldable pub paint_texels : Paint → Texture → ℕ → ℕ → ℕ → ℕ → List Cell
 paint_texels paint t x y first n = map (paint_texel paint t x y) (range_with_len first n)
 
 abbrev pub clut_strip : ℕ → ℕ → Strip
 clut_strip clut n = record { x = clut % 64 * 16; y = clut_row clut; n = n }
 
--- a palette of sixteen entries, if a texture has one, is in another row
+-- the palette is in another row than y, if it has sixteen entries
 abbrev pub HasClutInOtherRow : Texture → ℕ → Type 0
 HasClutInOtherRow t y = t.page.depth ≡ 0 → clut_row t.clut ≢ y
 
@@ -40,18 +41,18 @@ palette_of t =
 abbrev pub target : ℕ → ℕ → ℕ → Cell
 target x y first = record { x = x + first; y = y }
 
--- of n cells of a row that begins at (x, y), from a first one on, one reads as its texel what an earlier one writes, or
--- one writes in the palette
+-- n cells of a row that begins at (x, y), from cell `first` on, have a hazard: one reads as its texel a cell that an
+-- earlier one writes, or one writes a cell of the palette
 abbrev pub PaintHazard : Paint → ℕ → ℕ → ℕ → ℕ → Type 0
 PaintHazard paint x y first n =
     MatchOption (texture_of paint) ⊥
     (λ t. HasTextureHazard (paint_texels paint t x y first n) (palette_of t) (target x y first) n)
 
--- n cells of a span from a first one on do
+-- n cells of a span, from cell `first` on, have a hazard
 abbrev pub HasHazard : Span → ℕ → ℕ → Type 0
 HasHazard span first n = PaintHazard span.paint span.x span.y first n
 
--- ---- hazards as tests that compute
+-- ---- hazards as computable tests
 
 abbrev pub has_paint_hazard : Option Texture → Paint → ℕ → ℕ → ℕ → ℕ → Bool
 has_paint_hazard None paint x y first n = false
@@ -61,29 +62,29 @@ has_paint_hazard (Some t) paint x y first n =
 unfoldable pub has_hazard : Span → ℕ → ℕ → Bool
 has_hazard span first n = has_paint_hazard (texture_of span.paint) span.paint span.x span.y first n
 
--- ---- for coordinates that were computed before
+-- ---- for coordinates that are already computed
 
--- the cells of n texels by their coordinates
+-- the cells of n texels, from their coordinates
 unfoldable pub texel_cells : Texture → List ℕ → List ℕ → ℕ → List Cell
 texel_cells t us vs n =
     map (λ j. texel_place t.page t.window (slice_index us j) (slice_index vs j)) (range_with_len 0 n)
 
--- ---- spans apart
+-- ---- spans without a hazard
 
--- how many cells wide the texels of a page stand
+-- the width of a page in cells
 abbrev pub page_width : ℕ → ℕ
 page_width depth =
     if depth == 0 then 64
     else (if depth == 1 then 128
     else 256)
 
--- n cells of a row from (x, y) on are above or below the rows of a texture's page, or beside its columns, which do not
--- wrap
+-- n cells of a row from (x, y) on are above or below the rows of a texture's page, or to the left or right of its
+-- columns. In the second case these do not wrap.
 abbrev pub LiesOutsidePage : Texture → ℕ → ℕ → ℕ → Type 0
 LiesOutsidePage t x y n =
     ((y < t.page.y) ⊎ (t.page.y + 255 < y))
     ⊎ ((t.page.x + page_width t.page.depth ≤ 1024) × ((x + n ≤ t.page.x) ⊎ (t.page.x + page_width t.page.depth ≤ x)))
 
--- no cells of a span read what they write
+-- no cells of a span have a hazard
 pub record IsHazardFree (span : Span) : Type 0 where
   pub free : (first n : ℕ) → first + n ≤ span.n → HasHazard span first n → ⊥

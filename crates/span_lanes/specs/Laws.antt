@@ -1,4 +1,4 @@
--- What spans are, and what they cost.
+-- Laws on spans and their cost.
 use Rattle.std.specs.Prelude.{ℕ, ◌≡◌, ◌*◌, ◌≤◌, List, true, false}
 use Rattle.texture_page.specs.declared.page.Page.{Page}
 use Rattle.span_lanes.specs.declared.span.Paint.TheVariants.{TexturedRow}
@@ -8,17 +8,17 @@ use Rattle.span_lanes.specs.Cells.{drawn_cells, row_cells}
 use Rattle.span_lanes.specs.Shade.{drawn_span, shade_at}
 use Rattle.span_lanes.specs.Cost.{span_cost}
 
--- the cells of a span by their number are those of its row
+-- drawing a span by cell numbers equals drawing the cells of its row
 abbrev pub SpanLaw : Type 0
 SpanLaw =
     (span : Span) (n : ℕ) (m : List ℕ)
     → drawn_span span n m ≡ drawn_cells (shade_at span) span.brush.mask (row_cells span.x span.y n) m
 
--- a span costs at most four steps a cell
+-- a span costs at most four steps per cell
 abbrev pub CostLaw : Type 0
 CostLaw = (span : Span) → span_cost span ≤ 4 * span.n
 
--- a page with an open window and the palette that begins at (0, 0)
+-- a raw texture without a window, with the palette that begins at (0, 0)
 abbrev pub raw_texture : Page → Texture
 raw_texture page = record {
   page = page;

@@ -1,4 +1,4 @@
--- Paints made ready.
+-- Paints that are set up for drawing.
 use Rattle.std.specs.Prelude.{ℕ, ◌≡◌, None, Option, IfSome}
 use Rattle.span_lanes.specs.declared.paint_setup.PaintSetup.{PaintSetup}
 use Rattle.span_lanes.specs.declared.paint_setup.PaintSetup.TheVariants.{Solid, Untextured, Tri, Row}
@@ -11,14 +11,14 @@ use Rattle.span_lanes.specs.Shade.{texture_of}
 use Rattle.span_lanes.specs.TriangleSetup.{IsSetupOf}
 use Rattle.span_lanes.specs.ColoredClut.{IsColoredClut}
 
--- what is one for all spans of a paint and a brush
+-- the values that all spans of a paint and a brush share
 abbrev pub IsPaintSetup : DrawState → PaintSetup → Type 0
 IsPaintSetup state (Solid h) = (texture_of state.paint ≡ None) × ((x y n : ℕ) → IsSolid (state_span state x y n) h)
 IsPaintSetup state (Untextured shading) = (texture_of state.paint ≡ None) × IsShadingFor state.paint shading
 IsPaintSetup state (Tri setup) = IsSetupOf state setup
 IsPaintSetup state (Row row) = state.paint ≡ row_paint row
 
--- a pen holds this, and a palette under a colour, if one is kept
+-- a span drawer has such a setup, and a modulated palette, if one is cached
 pub record IsSpanDrawer (state : DrawState) (made : PaintSetup) (last : Option ColoredClut) : Type 0 where
   pub ready : IsPaintSetup state made
   pub colored : IfSome last IsColoredClut

@@ -1,4 +1,4 @@
--- What is one for all chunks of a textured span.
+-- The values that all chunks of a textured span share.
 use Rattle.std.specs.Prelude.{ℕ, ◌≡◌, ◌+◌, ◌<◌, ◌&&◌, not, IsTrue, List, Some, length, slice_index}
 use Rattle.span_lanes.specs.declared.chunk.Chunk.{Chunk}
 use Rattle.span_lanes.specs.declared.colored_clut.ModulatedTexels.{ModulatedTexels}
@@ -25,12 +25,12 @@ pub record IsRowSetup (span : Span) (row_setup : RowSetup) : Type 0 where
   pub coords : AreTexCoords span.paint span.x span.y span.n row_setup.coords
   pub hazard_free : IsTrue row_setup.hazard_free → IsHazardFree span
 
--- sixteen lanes: the texels of a part of a span, and then others
+-- sixteen lanes, the first of them the texels of a chunk
 pub record HasTexels (t : Texture) (p : Chunk) (m lanes : List ℕ) : Type 0 where
   pub long : length lanes ≡ 16
   pub value : (j : ℕ) → j < p.k → slice_index lanes j ≡ texel t (chunk_u p j) (chunk_v p j) m
 
--- the first lanes are what colours make of the texels of a part of a span
+-- the first lanes are the texels of a chunk, modulated by their colours
 abbrev pub AreModulated : (t : Texture) (p : Chunk) (texels modulated : List ℕ) → Type 0
 AreModulated t p texels modulated =
     let s = p.span.now in
@@ -38,7 +38,7 @@ AreModulated t p texels modulated =
     ≡ modulated_texel t.raw (paint_color s.paint (s.x + p.first + j) s.y)
     (dither_of (s.brush.dither && not t.raw) (s.x + p.first + j) s.y) (slice_index texels j)
 
--- the texels of a part, and what colours make of them
+-- the texels of a chunk, and the same texels modulated
 pub record AreDrawn (t : Texture) (p : Chunk) (m : List ℕ) (drawn : ModulatedTexels) : Type 0 where
   pub texels : HasTexels t p m drawn.texels
   pub long : length drawn.modulated ≡ 16

@@ -1,4 +1,4 @@
--- The pixel that a span draws at one of its cells (psx-spx, "GPU Rendering Attributes"; the exact whole numbers are our
+-- The pixel that a span draws at one of its cells (psx-spx, "GPU Rendering Attributes"; the exact integers are our
 -- own rule).
 use Rattle.std.specs.Prelude.{ℕ, ◌+◌, ◌-◌, ◌*◌, ◌%◌, ◌<◌, ◌≤◌, ◌==◌, ◌&&◌, ℤ, pos, IsTrue, Bool, false, not, List}
 use Rattle.std.specs.Prelude.{Option, None, Some, IfSome, if◌then◌else◌}
@@ -29,19 +29,19 @@ texture_of (TexturedRow color texture u v flip) = Some texture
 abbrev pub AreInside : Corners → ℕ → ℕ → ℕ → Type 0
 AreInside tri x y n = (i : ℕ) → i < n → IsTrue (is_inside tri (pos (x + i)) (pos y))
 
--- the cells are inside where the paint has a triangle
+-- the cells are inside the paint's triangle, if it has one
 abbrev pub HasInside : Paint → ℕ → ℕ → ℕ → Type 0
 HasInside (Flat color) x y n = Unit {0}
 HasInside (Shaded tri) x y n = AreInside tri x y n
 HasInside (TexturedTri tri texture) x y n = AreInside tri x y n
 HasInside (TexturedRow color texture u v flip) x y n = Unit {0}
 
--- settings such as there are
+-- settings that are valid
 pub record IsBrush (brush : Brush) : Type 0 where
   pub mask : brush.mask ≤ 3
   pub mode : brush.mode ≤ 3
 
--- some cells of one row, and what they can be drawn with
+-- one or more cells of one row of 1024, with a valid paint and brush
 pub record IsSpan (span : Span) : Type 0 where
   pub some : 1 ≤ span.n
   pub in_row : span.x + span.n ≤ 1024
@@ -49,28 +49,28 @@ pub record IsSpan (span : Span) : Type 0 where
   pub texture : IfSome (texture_of span.paint) IsTexture
   pub inside : HasInside span.paint span.x span.y span.n
 
--- the row of a span and its texture page lie in video memory of a height
+-- the row of a span and all rows of its texture page are in video memory of this height
 pub record LiesIn (height : ℕ) (span : Span) : Type 0 where
   pub row : span.y < height
   pub page : IfSome (texture_of span.paint) (HasPage height)
 
 -- ---- texels
 
--- the U of cell i of a row: from cell to cell one more, or one less where it is flipped
+-- the column U of the texel of cell i of a row: it increases by 1 from cell to cell, or decreases by 1 if flipped
 unfoldable pub row_u : ℕ → Bool → ℕ → ℕ
 row_u u flip i = if flip then (u + 1024 - i) % 256 else (u + i) % 256
 
 -- ---- colours
 
--- the dither offset that is used at a cell
+-- the dither offset at a cell, 0 without dither
 unfoldable pub dither_of : Bool → ℕ → ℕ → ℤ
 dither_of dither x y = if dither then dither_offset x y else pos 0
 
--- a colour over a cell, blended where it is semi-transparent
+-- the 15-bit colour `front` over a cell, blended if it is semi-transparent
 unfoldable pub blended_if : Bool → ℕ → ℕ → ℕ → ℕ
 blended_if semi mode back front = if semi then blended_of mode back front else front
 
--- the pixel of a colour
+-- the pixel of a 24-bit colour without a texture
 unfoldable pub flat_pixel : Brush → ℕ → ℤ → ℕ → Option ℕ
 flat_pixel brush color shift back =
     let front = tone_of (red_of color) (green_of color) (blue_of color) shift in
@@ -80,11 +80,11 @@ flat_pixel brush color shift back =
 abbrev pub is_high : ℕ → Bool
 is_high t = bit t 15 == 1
 
--- a texel under a colour, or the texel itself
+-- a texel modulated by a colour, or unchanged if raw
 unfoldable pub modulated_texel : Bool → ℕ → ℤ → ℕ → ℕ
 modulated_texel raw color shift t = if raw then t else modulated_of t (red_of color) (green_of color) (blue_of color) shift
 
--- the pixel of a texel: none for 0000h; bit 15 says whether it may be semi-transparent, and stays
+-- the pixel of a texel: none for 0000h; bit 15 decides whether the texel may be semi-transparent, and is kept
 unfoldable pub textured_pixel : Brush → Bool → ℕ → ℤ → ℕ → ℕ → Option ℕ
 textured_pixel brush raw color shift back t =
     if t == 0 then None
@@ -101,7 +101,7 @@ color_in tri x y = attribute_in tri 0 x y + 256 * attribute_in tri 1 x y + 65536
 
 -- ---- the pixel
 
--- the pixel, or none, of cell i of a row, which is (x, y)
+-- the pixel, if any, of cell i of a row, which is at (x, y)
 abbrev pub paint_pixel : Paint → Brush → ℕ → ℕ → ℕ → List ℕ → Option ℕ
 paint_pixel (Flat color) brush x y i m = flat_pixel brush color (dither_of brush.dither x y) (at m x y)
 paint_pixel (Shaded tri) brush x y i m = flat_pixel brush (color_in tri x y) (dither_of brush.dither x y) (at m x y)
@@ -120,6 +120,6 @@ shade span i m = paint_pixel span.paint span.brush (span.x + i) span.y i m
 abbrev pub shade_at : Span → Cell → List ℕ → Option ℕ
 shade_at span cell m = shade span (cell.x - span.x) m
 
--- the first n cells of a span, one after another from left to right, by their number
+-- the first n cells of a span, drawn one after another from left to right, by cell number
 abbrev pub drawn_span : Span → ℕ → List ℕ → List ℕ
 drawn_span span n m = drawn_lanes (shade span) span.brush.mask (1024 * span.y + span.x) n m

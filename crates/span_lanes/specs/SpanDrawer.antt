@@ -17,33 +17,33 @@ use Rattle.span_lanes.specs.Lanes.{IsSolid}
 use Rattle.span_lanes.specs.Shade.{color_in, shade_at}
 use Rattle.span_lanes.specs.ColoredClut.{AreClutEntriesFresh, entries_of}
 
--- a span that is drawn with a coat
+-- a span with a draw state
 abbrev pub state_span : DrawState → (x y n : ℕ) → Span
 state_span state x y n = record { x = x; y = y; n = n; paint = state.paint; brush = state.brush }
 
 abbrev pub state_of : Span → DrawState
 state_of span = record { paint = span.paint; brush = span.brush }
 
--- what a pen draws with, and the sixteen entries of the palette that it saw, if it keeps them
+-- the draw state of a drawer, and the sixteen palette entries that it caches, if any
 pub record SpanDrawerView : Type 0 where
   pub state : DrawState
   pub palette : Option (List ℕ)
 
--- the cells of a span were drawn, one after another
+-- the cells of a span were drawn one after another
 pub record DrawsCells (s : Span) (before after : Stage) : Type 0 where
   pub cells : after.m ≡ drawn_cells (shade_at s) s.brush.mask (row_cells s.x s.y s.n) before.m
   pub long : length after.m ≡ length before.m
   pub cost : after.steps ≤ before.steps + span_cost s
 
--- one that has seen no palette
+-- a drawer without a cached palette
 abbrev pub new_drawer : DrawState → SpanDrawerView
 new_drawer state = record { state = state; palette = None }
 
--- the palette that a pen keeps, if any, is the one in video memory
+-- the palette that a drawer caches, if any, is equal to the one in video memory
 abbrev pub IsClutFresh : SpanDrawerView → List ℕ → Type 0
 IsClutFresh drawer m = AreClutEntriesFresh drawer.state.paint m drawer.palette
 
--- ---- what is made ready
+-- ---- setups
 
 -- the colours of a triangle
 abbrev pub IsShadingOf : Corners → Shading → Type 0
@@ -62,7 +62,7 @@ pub record AreCoordPlanes (tri : Corners) (coord_planes : CoordPlanes) : Type 0 
   pub u : IsPlane tri 3 coord_planes.u
   pub v : IsPlane tri 4 coord_planes.v
 
--- the halfword that all cells of one colour become, where there is one whatever they hold
+-- the halfword that all cells become, if there is one whatever they contain
 abbrev pub HasHalfword : Paint → Brush → Option ℕ → Type 0
 HasHalfword (Flat color) brush solid =
     IfSome solid (λ h. (x y n : ℕ) → IsSolid (record { x = x; y = y; n = n; paint = Flat color; brush = brush }) h)

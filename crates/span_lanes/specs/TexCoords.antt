@@ -1,4 +1,4 @@
--- The texel coordinates of the cells of a span, by their number.
+-- The texel coordinates of the cells of a span, by cell number.
 use Rattle.std.specs.Prelude.{ℕ, List, ◌≡◌, ◌+◌, ◌<◌, pos, IsTrue}
 use Rattle.edge_walk.specs.Line.{line_value}
 use Rattle.edge_walk.specs.Triangle.{Corners, is_inside}
@@ -12,7 +12,7 @@ use Rattle.span_lanes.specs.Draws.{CanSample, IsChunk}
 use Rattle.span_lanes.specs.Shade.{row_u, attribute_in}
 use Rattle.span_lanes.specs.Paints.{paint_u, paint_v}
 
--- one coordinate of the texel j cells from one that is `at` cells from the first
+-- one coordinate of the texel of cell `at + j`
 abbrev pub coord_at : CoordAlongRow → ℕ → ℕ → ℕ
 coord_at (Line line) at j = line_value line at j
 coord_at (Row u flip) at j = row_u u flip (at + j)
@@ -23,13 +23,13 @@ pub record AreTexCoords (paint : Paint) (x y n : ℕ) (coords : TexCoords) : Typ
   pub u : (at j : ℕ) → j < 16 → at + j < n → coord_at coords.u at j ≡ paint_u paint (x + (at + j)) y (at + j)
   pub v : (at j : ℕ) → j < 16 → at + j < n → coord_at coords.v at j ≡ paint_v paint (x + (at + j)) y (at + j)
 
--- the texels of a part of a span can be read by its coordinates; that these can be found is given
+-- the texels of a chunk can be read by their coordinates; `found` states that these can be computed
 pub record CanRead (t : Texture) (p : Chunk) (found : Type 0) (m : List ℕ) : Type 0 where
   pub sample : CanSample p.span.now t m
   pub places : found
   pub chunk : IsChunk p
 
--- a coordinate at the cells of a triangle is its attribute there, from (x, y) on
+-- a coordinate is a triangle's attribute at its cells inside, from (x, y) on
 abbrev pub IsCoordAlong : Corners → (which x y : ℕ) → CoordAlongRow → Type 0
 IsCoordAlong tri which x y along =
     (at j : ℕ) → j < 16 → IsTrue (is_inside tri (pos (x + (at + j))) (pos y))

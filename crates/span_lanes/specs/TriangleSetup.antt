@@ -1,4 +1,4 @@
--- Triangles with a texture, made ready for their rows.
+-- Textured triangles, set up for their rows.
 use Rattle.std.specs.Prelude.{ℕ, ◌≡◌, List}
 use Rattle.edge_walk.specs.Triangle.{Corners}
 use Rattle.texel_lanes.specs.declared.texture.Texture.{Texture}
@@ -11,26 +11,26 @@ use Rattle.span_lanes.specs.Guard.{IsHazardFree, HasClutInOtherRow}
 use Rattle.span_lanes.specs.SpanDrawer.{AreCoordPlanes, IsShadingOf, state_of}
 use Rattle.span_lanes.specs.declared.span.DrawState.{DrawState}
 
--- the colours and the coordinates are those of the triangle
+-- the colour and coordinate planes are those of the triangle
 pub record IsTriangleSetup (setup : TriangleSetup) : Type 0 where
   pub colors : IsShadingOf setup.tri setup.shading
   pub coord_planes : AreCoordPlanes setup.tri setup.coord_planes
 
--- what a paint and a brush are, made ready
+-- the setup of a paint and a brush
 pub record IsSetupOf (state : DrawState) (setup : TriangleSetup) : Type 0 where
   pub paint : state.paint ≡ TexturedTri setup.tri setup.texture
   pub brush : state.brush ≡ setup.brush
   pub ready : IsTriangleSetup setup
 
--- a triangle, a texture and a brush are, made ready
+-- the setup of a triangle, a texture and a brush
 pub record IsSetupFor (corners : Corners) (t : Texture) (with : Brush) (setup : TriangleSetup) : Type 0 where
   pub tri : setup.tri ≡ corners
   pub texture : setup.texture ≡ t
   pub brush : setup.brush ≡ with
   pub ready : IsTriangleSetup setup
 
--- a span of a triangle can be drawn in video memory, reads nothing that it writes, and has another row than the
--- palette, if there is one of sixteen entries
+-- a span of a triangle can be drawn in video memory and has no hazard. If the palette has sixteen entries, it is in
+-- another row.
 pub record CanDrawSetup (setup : TriangleSetup) (span : Span) (m : List ℕ) : Type 0 where
   pub ready : IsSetupOf (state_of span) setup
   pub can : CanDraw span m

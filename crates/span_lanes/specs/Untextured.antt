@@ -1,4 +1,4 @@
--- Spans without a texture, by their colours.
+-- Spans without a texture, and their colours.
 use Rattle.std.specs.Prelude.{ℕ, ℤ, ◌≡◌, List, None}
 use Rattle.span_lanes.specs.declared.row_colors.RowColors.{RowColors}
 use Rattle.span_lanes.specs.declared.span.Span.{Span}
@@ -7,7 +7,7 @@ use Rattle.span_lanes.specs.RowColors.{AreRowColors}
 use Rattle.span_lanes.specs.Lanes.{AreDitherLanesAt}
 use Rattle.span_lanes.specs.Shade.{texture_of}
 
--- a span without a texture that can be drawn in video memory, its colours and its dither offsets
+-- a span without a texture that can be drawn in video memory, with its colours and its dither offsets
 pub record CanDrawUntextured (s : Span) (row_colors : RowColors) (dither_lanes : List ℤ) (m : List ℕ) : Type 0 where
   pub can : CanDraw s m
   pub untextured : texture_of s.paint ≡ None

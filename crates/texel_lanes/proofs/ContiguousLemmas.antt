@@ -1,4 +1,4 @@
--- Texels that stand side by side.
+-- Contiguous texels.
 use Rattle.std.proofs.Common.{◌≡◌, ◌≤◌, ◌<◌, ℕ, List, ◌+◌, ◌*◌, ◌/◌, ◌%◌, get_or, refl, ap, ◌∙◌, arith}
 use Rattle.std.specs.Int.Bits.{and_zero_r, or_zero_r}
 use Rattle.std.proofs.lemmas.Bool.Decides.{nat_tests}
@@ -10,7 +10,7 @@ use Rattle.texel_lanes.specs.Texture.{at_cell, texel}
 use Rattle.texel_lanes.specs.Texels.{AreBeside, lane_place}
 use Rattle.texel_lanes.proofs.TexelLemmas.{texel_direct}
 
--- without bits of the mask a window changes no coordinate
+-- a window with mask 0 changes no coordinate
 pub open_window : (mask off u : ℕ) → mask ≡ 0 → u ≤ 255 → windowed mask off u ≡ u
 unfolding windowed
 open_window mask off u none low = rw (none, and_zero_r, or_zero_r, and_mask u 8) (omega arith)
@@ -18,11 +18,11 @@ open_window mask off u none low = rw (none, and_zero_r, or_zero_r, and_mask u 8)
 pub deep_column : (depth u : ℕ) → 2 ≤ depth → column depth u ≡ u
 deep_column depth u deep = grind (arith, nat_tests)
 
--- the part of a halfword for a column
+-- the index in a halfword depends only on the column modulo 2 at depth 1
 pub same_half : (a b h : ℕ) → a % 2 ≡ b % 2 → index_in 1 a h ≡ index_in 1 b h
 same_half a b h same = rw same refl
 
--- the part of a halfword for a column
+-- the index in a halfword depends only on the column modulo 4 at depth 0
 pub same_part : (a b h : ℕ) → a % 4 ≡ b % 4 → index_in 0 a h ≡ index_in 0 b h
 same_part a b h same = rw same refl
 
@@ -31,7 +31,7 @@ pub beside_room : (t : Texture) (at : Coordinates) → 2 ≤ t.page.depth → Ar
     → t.page.x + get_or at.us 0 0 + 16 ≤ 1024
 beside_room t at deep is = let wide = deep_column t.page.depth (get_or at.us 0 0) deep in rw wide at is.in_row
 
--- one of sixteen texels of fifteen bits side by side
+-- one of sixteen contiguous texels of fifteen bits
 pub beside_texel : (t : Texture) (at : Coordinates) (j h : ℕ) (m : List ℕ) → 2 ≤ t.page.depth → AreBeside t at
     → get_or at.us j 0 ≤ 255 → get_or at.vs j 0 ≤ 255 → j < 16
     → h ≡ get_or m (1024 * (t.page.y + get_or at.vs 0 0) + (t.page.x + get_or at.us 0 0) + j) 0
@@ -51,7 +51,7 @@ beside_texel t at j h m deep is low_u low_v lane read =
     (texel_direct t (get_or at.us j 0) (get_or at.vs j 0) m
     (texel_place t.page t.window (get_or at.us j 0) (get_or at.vs j 0)) deep refl)
 
--- the index of one of sixteen texels of four bits side by side
+-- the index of one of sixteen contiguous texels of four bits
 pub beside_index : (t : Texture) (at : Coordinates) (j h : ℕ) (m : List ℕ) → t.page.depth ≡ 0 → AreBeside t at
     → get_or at.us j 0 ≤ 255 → get_or at.vs j 0 ≤ 255 → j < 16
     → h ≡ index_in 0 (get_or at.us 0 0 + j)

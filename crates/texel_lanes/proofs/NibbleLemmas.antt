@@ -15,7 +15,7 @@ pub nibble_is : (a h : ℕ) → h * raise a % 2 ^ 16 / 2 ^ 12 ≡ index_in 0 a h
 unfolding raise
 nibble_is a h = by_column h (a % 4) (omega arith)
 
--- four bits of a byte of a halfword
+-- the four bits of a column are the low or the high half of one byte of its halfword
 by_half : (h at : ℕ) → at < 4
     → cond (eqb (at % 2) 0) (h / 256 ^ (at / 2) % 256 % 16) (h / 256 ^ (at / 2) % 256 / 2 ^ 4) ≡ h / 2 ^ (4 * at) % 16
 by_half h zero lt = omega arith

@@ -1,4 +1,4 @@
--- Texels by their coordinates, lane by lane.
+-- Texels at sixteen coordinates, lane by lane.
 use Rattle.std.specs.Prelude.{ℕ, ◌≡◌, ◌+◌, ◌<◌, ◌≤◌, List, length, slice_index}
 use Rattle.px_num.specs.Lanes.{EachLane, AreBytes}
 use Rattle.px_num.specs.declared.shape.Cell.{Cell}
@@ -7,7 +7,7 @@ use Rattle.texel_lanes.specs.declared.coordinates.Coordinates.{Coordinates}
 use Rattle.texel_lanes.specs.declared.texture.Texture.{Texture}
 use Rattle.texel_lanes.specs.Texture.{at_cell, texel}
 
--- sixteen coordinates of a texel
+-- sixteen coordinates of texels in one direction, each at most 255
 pub record AreCoordinates (coordinates : List ℕ) : Type 0 where
   pub long : length coordinates ≡ 16
   pub bytes : EachLane (λ i. slice_index coordinates i ≤ 255)
@@ -16,12 +16,12 @@ pub record AreCoordinates (coordinates : List ℕ) : Type 0 where
 abbrev pub lane_place : Texture → Coordinates → ℕ → Cell
 lane_place t at j = texel_place t.page t.window (slice_index at.us j) (slice_index at.vs j)
 
--- the columns of the texels under the window
+-- the columns of the texels after the window
 abbrev pub AreAcross : Texture → Coordinates → List ℕ → Type 0
 AreAcross t at across =
     EachLane (λ i. slice_index across i ≡ windowed t.window.mask_x t.window.off_x (slice_index at.us i))
 
--- the first k lanes are the halfwords of the texels' cells
+-- the first k lanes are the values of the texels' cells
 abbrev pub AreHalfwords : Texture → Coordinates → (k : ℕ) → (m halfwords : List ℕ) → Type 0
 AreHalfwords t at k m halfwords = (j : ℕ) → j < k → slice_index halfwords j ≡ at_cell m (lane_place t at j)
 
@@ -30,15 +30,14 @@ abbrev pub AreTexels : Texture → Coordinates → (k : ℕ) → (m lanes : List
 AreTexels t at k m lanes =
     (j : ℕ) → j < k → slice_index lanes j ≡ texel t (slice_index at.us j) (slice_index at.vs j) m
 
--- cells among the sixteen of a row from (x, y) on
+-- all cells are among the sixteen of a row from (x, y) on
 abbrev pub StandNear : (xs ys : List ℕ) → (x y : ℕ) → Type 0
 StandNear xs ys x y =
     (x + 16 ≤ 1024)
     × EachLane (λ i. (x ≤ slice_index xs i) × (slice_index xs i < x + 16))
     × EachLane (λ i. slice_index ys i ≡ y)
 
--- sixteen texels that stand side by side, seen without a window, and sixteen cells from the first one's that do not
--- wrap
+-- sixteen contiguous texels without a window; sixteen cells from the first one's cell on do not wrap
 pub record AreBeside (t : Texture) (at : Coordinates) : Type 0 where
   pub window_x : t.window.mask_x ≡ 0
   pub window_y : t.window.mask_y ≡ 0

@@ -11,7 +11,7 @@ use std::sync::ledger::Ledger;
 use texture_page::clut_cell;
 use vram_store::{Steps, Vram};
 
-/// The row of video memory that a palette stands in.
+/// Returns the row of video memory that contains the palette, below 512. `clut` is the palette's attribute.
 #[inline(always)]
 pub fn clut_row(clut: u16) -> u16
     ensures value { result ≡ clut_row clut }
@@ -20,7 +20,7 @@ pub fn clut_row(clut: u16) -> u16
     clut_cell(clut, 0).y
 }
 
-// The columns of the entries of sixteen indexes.
+// Returns the column of the palette entry for each index. Indexes are below 256. Columns wrap at 1024.
 #[inline(always)]
 fn entry_columns(clut: u16, indexes: u16x16) -> u16x16
     requires long { length indexes ≡ 16 }
@@ -32,7 +32,7 @@ fn entry_columns(clut: u16, indexes: u16x16) -> u16x16
     low_bits(add(splat(clut % 64 * 16), indexes), 10)
 }
 
-/// The first sixteen entries of a palette, whose row is one of the first 512.
+/// Returns the first sixteen entries of a palette. Its row is always one of the first 512. Costs at most one step.
 #[inline(always)]
 pub fn sixteen_entries<L: Ledger>(vram: &Vram, clut: u16, steps: &mut Steps<L>) -> u16x16
     ensures long { length result ≡ 16 }
@@ -43,7 +43,8 @@ pub fn sixteen_entries<L: Ledger>(vram: &Vram, clut: u16, steps: &mut Steps<L>) 
     vram.load16(clut % 64 * 16, clut_row(clut), 16, steps)
 }
 
-/// The entries of a palette by their indexes.
+/// Returns the palette entries for the first `k` indexes; the other lanes have no specified value. All sixteen
+/// indexes must be below 256. Costs at most `k` steps.
 #[inline(always)]
 pub fn gather_entries<G: Gather, L: Ledger>(
     vram: &Vram,

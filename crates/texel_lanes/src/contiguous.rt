@@ -1,4 +1,4 @@
-// Texels of a chunk that stand side by side.
+// Contiguous texels of a chunk: at consecutive columns of one row.
 ghost use Rattle.std.specs.Prelude.{◌≡◌, IsTrue, ◌≤◌, ◌<◌, ◌+◌, ◌/◌, length, slice_index};
 ghost use Rattle.px_num.specs.Lanes.{EachLane, AreBytes};
 ghost use Rattle.vram_store.specs.Vram.{at, height_of};
@@ -20,7 +20,7 @@ use std::simd::prelude::*;
 use std::sync::ledger::Ledger;
 use vram_store::{Steps, Vram};
 
-// The column of a texel from the page's first cell.
+// Returns the column of a texel's cell, counted from the page's first cell. `u` is the texel's column.
 #[inline(always)]
 fn column_of(depth: u8, u: u16) -> u16
     ensures value { result ≡ column depth u }
@@ -33,7 +33,8 @@ fn column_of(depth: u8, u: u16) -> u16
     }
 }
 
-// Whether sixteen texels stand side by side, seen without a window, in cells that do not wrap.
+// Returns whether all sixteen texels are contiguous and the texture has no window. Sixteen cells from the first
+// texel's cell on must also not pass column 1023.
 #[inline(always)]
 pub(crate) fn are_contiguous(texture: &Texture, at: &Coordinates) -> bool
     requires texture { IsTexture texture.now }
@@ -50,7 +51,7 @@ pub(crate) fn are_contiguous(texture: &Texture, at: &Coordinates) -> bool
     room && open && columns && rows
 }
 
-// k texels of fifteen bits that stand side by side.
+// Returns `k` contiguous texels of fifteen bits, 1 to 16, with one load.
 #[inline(always)]
 pub(crate) fn read_contiguous<L: Ledger>(
     vram: &Vram,
@@ -74,7 +75,9 @@ pub(crate) fn read_contiguous<L: Ledger>(
     vram.load16(x, y, k, steps)
 }
 
-/// The indexes of sixteen texels of four bits from a column of a page on, in a row of video memory.
+/// Returns the indexes of sixteen contiguous texels of four bits from column `u` of a page on, at most 255. `page` is
+/// the column of the page's first cell, `y` the row in video memory. Sixteen cells from the first texel's cell on
+/// must not pass the end of the row. Costs at most one step.
 #[inline(always)]
 pub fn sixteen_indexes<L: Ledger>(
     vram: &Vram,
@@ -95,7 +98,9 @@ pub fn sixteen_indexes<L: Ledger>(
     nibbles_from((u % 4) as u8, cells)
 }
 
-/// The indexes of sixteen texels of eight bits from a column of a page on, in a row of video memory.
+/// Returns the indexes of sixteen contiguous texels of eight bits from column `u` of a page on, at most 255. `page`
+/// is the column of the page's first cell, `y` the row in video memory. Sixteen cells from the first texel's cell on
+/// must not pass the end of the row. Costs at most one step.
 #[inline(always)]
 pub fn sixteen_octets<L: Ledger>(
     vram: &Vram,
@@ -117,7 +122,7 @@ pub fn sixteen_octets<L: Ledger>(
     octets(across, halfwords_at(cells, shifted_down(across, 1)))
 }
 
-// The indexes of sixteen texels of four bits that stand side by side.
+// Returns the indexes of sixteen contiguous texels of four bits.
 #[inline(always)]
 fn contiguous_indexes<L: Ledger>(
     vram: &Vram,
@@ -138,7 +143,7 @@ fn contiguous_indexes<L: Ledger>(
     sixteen_indexes(vram, texture.page.x, u, y, steps)
 }
 
-// The indexes of k texels of four bits, by the cells that they stand in.
+// Returns the indexes of the first `k` texels of four bits at any coordinates.
 #[inline(always)]
 fn scattered_indexes<G: Gather, L: Ledger>(
     vram: &Vram,
@@ -159,7 +164,9 @@ fn scattered_indexes<G: Gather, L: Ledger>(
     nibbles(places.across, halfwords)
 }
 
-/// The indexes of k texels of four bits by their coordinates: at once where there are many and they stand side by side.
+/// Returns the indexes of the first `k` texels of four bits, 1 to 16, at coordinates `at`. The texture must have
+/// depth 0, and all rows of its page must be in video memory. Loads them all at once if `G` tests for it, `k` exceeds
+/// eight and the texels are contiguous. Costs at most `k` steps.
 #[inline(always)]
 pub fn indexes_of<G: Gather, L: Ledger>(
     vram: &Vram,

@@ -1,4 +1,4 @@
-// The coordinates of texels, all lanes at once.
+// The coordinates of sixteen texels.
 
 use std::simd::prelude::*;
 

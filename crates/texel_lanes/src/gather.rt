@@ -1,4 +1,4 @@
-// Halfwords of cells that stand anywhere.
+// Reads of cells at any positions.
 ghost use Rattle.std.specs.Prelude.{◌≡◌, ◌≤◌, ◌<◌, ◌+◌, ℕ, length, slice_index};
 ghost use Rattle.px_num.specs.Lanes.{EachLane};
 ghost use Rattle.vram_store.specs.Vram.{at, height_of};
@@ -8,12 +8,14 @@ use std::simd::prelude::*;
 use std::sync::ledger::Ledger;
 use vram_store::{Steps, Vram};
 
-/// How the halfwords of k cells are read. What is known of k makes a text of its own of what reads texels by it.
+/// The method of reading `k` cells. The functions that read texels are compiled once for each method, so each suits a
+/// range of `k`.
 pub trait Gather {
-    /// Whether it pays to ask first if the cells stand side by side, or close by.
+    /// Returns whether callers should test for contiguous or close cells first.
     fn looks() -> bool;
 
-    /// The first `k` lanes are the cells at these columns and rows, and the others mean nothing.
+    /// Returns the cells at columns `xs` and rows `ys` in the first `k` lanes. The other lanes have no specified
+    /// value, but all sixteen must be cells of video memory. Costs at most `k` steps.
     fn gather<L: Ledger>(vram: &Vram, xs: u16x16, ys: u16x16, k: u8, steps: &mut Steps<L>) -> u16x16
         requires few { k ≤ 16 }
         requires long { (length xs ≡ 16) × (length ys ≡ 16) }
@@ -23,7 +25,8 @@ pub trait Gather {
         ensures value { (j : ℕ) → j < k → slice_index result j ≡ at vram.now (slice_index xs j) (slice_index ys j) }
         ensures cost { steps.new ≤ steps.old + k };
 
-    /// The first `k` lanes are the cells at these columns of one row, and the others mean nothing.
+    /// Returns the cells at columns `xs` of row `y` in the first `k` lanes. The other lanes have no specified value,
+    /// but all sixteen columns must be below 1024. Costs at most `k` steps.
     fn gather_in_row<L: Ledger>(
         vram: &Vram,
         xs: u16x16,
@@ -40,13 +43,13 @@ pub trait Gather {
         ensures cost { steps.new ≤ steps.old + k };
 }
 
-/// One after another.
+/// Reads `k` cells in a loop.
 pub struct OneByOne {}
 
-/// Eight without a loop: for few cells.
+/// Reads eight cells without a loop, or `k` if `k` exceeds eight. For few cells.
 pub struct HalfAtOnce {}
 
-/// Sixteen without a loop: for many.
+/// Always reads sixteen cells without a loop. For many cells.
 pub struct AllAtOnce {}
 
 impl Gather for OneByOne {

@@ -1,4 +1,4 @@
-// Halfwords of cells, all lanes at once.
+// The halfwords of up to sixteen cells.
 ghost use Rattle.std.specs.Prelude.{◌≡◌, IsTrue, ◌≤◌, ◌<◌, ◌+◌, ℕ, length, slice_index};
 ghost use Rattle.px_num.specs.Lanes.{EachLane};
 ghost use Rattle.vram_store.specs.Vram.{at, height_of};
@@ -12,7 +12,8 @@ use std::simd::prelude::*;
 use std::sync::ledger::Ledger;
 use vram_store::{Steps, Vram};
 
-// Whether sixteen cells stand in a row of sixteen cells from (x, y) on.
+// Returns whether all sixteen cells (`xs`, `ys`) are among the sixteen of row `y` from column `x` on. These must not
+// pass column 1023.
 #[inline(always)]
 fn stand_near(xs: u16x16, ys: u16x16, x: u16, y: u16) -> bool
     requires long { (length xs ≡ 16) × (length ys ≡ 16) }
@@ -27,7 +28,7 @@ fn stand_near(xs: u16x16, ys: u16x16, x: u16, y: u16) -> bool
     x + 16 <= 1024 && none_before && none_after && one_row
 }
 
-// The halfwords of cells in a row of sixteen cells from (x, y) on.
+// Returns the halfwords of sixteen cells that are among the sixteen of row `y` from column `x` on. Costs one load.
 #[inline(always)]
 fn near_halfwords<L: Ledger>(
     vram: &Vram,
@@ -48,8 +49,8 @@ fn near_halfwords<L: Ledger>(
     halfwords_at(cells, sub_or_zero(xs, splat(x)))
 }
 
-// The halfwords of k cells: at once where there are many and they stand close by. For few the look costs more than
-// it spares.
+// Returns the halfwords of the first `k` cells. Uses one load if `G` tests for it, `k` exceeds eight and the cells
+// are close. For fewer cells the test costs more than it saves.
 #[inline(always)]
 pub(crate) fn halfwords_of<G: Gather, L: Ledger>(
     vram: &Vram,

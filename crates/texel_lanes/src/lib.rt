@@ -1,9 +1,10 @@
-//! The texels of a chunk of up to sixteen pixels: where they stand in video memory, and what they are.
+//! The texels of a chunk of up to sixteen pixels: their cells in video memory and their values.
 //!
-//! A texel has coordinates within its page. Under the window and with the page they give a cell; of texels of four
-//! and eight bits the cell has an index, and the palette's entry at this index is the texel. All that is done for
-//! sixteen texels at once, and what is read is read as video memory is before the first pixel is written: whether
-//! a chunk may do so is asked of `overlap_guard`.
+//! A texel has coordinates within its page. Texture window and page map them to a cell. For texels of four and eight
+//! bits, the cell contains an index, and the texel is the palette entry at this index.
+//!
+//! The functions read up to sixteen texels at once. All reads are from video memory as it is before the first pixel
+//! of the chunk is written. `overlap_guard` decides whether a chunk may be read so.
 #![tactic(auto)]
 
 mod clut;

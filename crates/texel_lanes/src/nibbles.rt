@@ -11,7 +11,7 @@ use px_num::bytes::{
 use px_num::lanes::{low_bits, shifted_down, wrapping_mul};
 use std::simd::prelude::*;
 
-// What brings the four bits of a column into the top of its halfword, for the columns 0 to 3.
+// Returns the factors that move the four bits of the columns 0 to 3 to the top of their halfword.
 #[inline(always)]
 fn raise_table() -> u16x16
     ensures long { length result ≡ 16 }
@@ -20,7 +20,7 @@ fn raise_table() -> u16x16
     u16x16::from_array([4096, 256, 16, 1, 0, 0, 0, 0, 0, 0, 0, 0, 0, 0, 0, 0])
 }
 
-// What brings the four bits of a column into the top of its halfword.
+// Returns for each column the factor that moves its four bits to the top of their halfword.
 #[inline(always)]
 #[tactic(auto, using(crate::proofs::NibbleLemmas::raise_low))]
 fn raises(across: u16x16) -> u16x16
@@ -31,7 +31,8 @@ fn raises(across: u16x16) -> u16x16
     halfwords_at(raise_table(), low_bits(across, 2))
 }
 
-// The indexes of sixteen texels, by their columns under the window and the halfwords of their cells.
+// Returns the indexes of sixteen texels of four bits. `across` has their columns under the window, `halfwords` their
+// cells.
 #[inline(always)]
 #[tactic(auto, using(crate::proofs::NibbleLemmas::nibble_is))]
 fn indexes(across: u16x16, halfwords: u16x16) -> u16x16
@@ -44,7 +45,7 @@ fn indexes(across: u16x16, halfwords: u16x16) -> u16x16
     shifted_down(wrapping_mul(halfwords, raises(across)), 12)
 }
 
-// The indexes of four bits that texels side by side have in these halfwords, as bytes.
+// As [`indexes`], as bytes.
 #[inline(always)]
 pub(crate) fn nibbles(across: u16x16, halfwords: u16x16) -> u8x16
     requires across { length across ≡ 16 }
@@ -56,7 +57,8 @@ pub(crate) fn nibbles(across: u16x16, halfwords: u16x16) -> u8x16
     narrowed(indexes(across, halfwords))
 }
 
-// The indexes of sixteen texels that stand side by side, from a column of the first of sixteen halfwords on.
+// Returns the indexes of sixteen contiguous texels of four bits. The first is texel `column`, 0 to 3, of the first
+// halfword.
 #[inline(always)]
 pub(crate) fn nibbles_from(column: u8, halfwords: u16x16) -> u8x16
     requires column { column < 4 }

@@ -8,7 +8,7 @@ use crate::table::halfwords_at;
 use px_num::lanes::{low_bits, shifted_down, wrapping_mul};
 use std::simd::prelude::*;
 
-// What brings the eight bits of a column into the top of its halfword, for the columns 0 and 1.
+// Returns the factors that move the eight bits of the columns 0 and 1 to the top of their halfword.
 #[inline(always)]
 fn byte_table() -> u16x16
     ensures long { length result ≡ 16 }
@@ -17,7 +17,7 @@ fn byte_table() -> u16x16
     u16x16::from_array([256, 1, 0, 0, 0, 0, 0, 0, 0, 0, 0, 0, 0, 0, 0, 0])
 }
 
-// What brings the eight bits of a column into the top of its halfword.
+// Returns for each column the factor that moves its eight bits to the top of their halfword.
 #[inline(always)]
 #[tactic(auto, using(crate::proofs::NibbleLemmas::raise_byte_low))]
 fn byte_raises(across: u16x16) -> u16x16
@@ -28,7 +28,8 @@ fn byte_raises(across: u16x16) -> u16x16
     halfwords_at(byte_table(), low_bits(across, 1))
 }
 
-// The indexes of sixteen texels, by their columns under the window and the halfwords of their cells.
+// Returns the indexes of sixteen texels of eight bits. `across` has their columns under the window, `halfwords` their
+// cells.
 #[inline(always)]
 #[tactic(auto, using(crate::proofs::NibbleLemmas::byte_is))]
 pub(crate) fn octets(across: u16x16, halfwords: u16x16) -> u16x16

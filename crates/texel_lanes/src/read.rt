@@ -1,4 +1,4 @@
-// Texels by their coordinates, all lanes at once.
+// Texels at sixteen coordinates.
 ghost use Rattle.std.specs.Prelude.{◌≡◌, ◌≤◌, ◌<◌, ◌+◌, ◌*◌, ℕ, length, slice_index};
 ghost use Rattle.vram_store.specs.Vram.{height_of};
 ghost use Rattle.texel_lanes.specs.Texture.{HasPage, IsTexture, texel_steps};
@@ -19,7 +19,7 @@ use std::simd::prelude::*;
 use std::sync::ledger::Ledger;
 use vram_store::{Steps, Vram};
 
-// k texels of four bits.
+// Returns the first `k` texels of four bits.
 #[inline(always)]
 fn read_fours<G: Gather, L: Ledger>(
     vram: &Vram,
@@ -42,7 +42,7 @@ fn read_fours<G: Gather, L: Ledger>(
     entries_at(&table_of(entries), index)
 }
 
-// k texels of eight bits.
+// Returns the first `k` texels of eight bits.
 #[inline(always)]
 fn read_eights<G: Gather, L: Ledger>(
     vram: &Vram,
@@ -66,7 +66,7 @@ fn read_eights<G: Gather, L: Ledger>(
     gather_entries::<G, L>(vram, texture.clut, index, k, steps)
 }
 
-// k texels of fifteen bits, by the cells that they stand in.
+// Returns the first `k` texels of fifteen bits at any coordinates.
 #[inline(always)]
 fn read_scattered<G: Gather, L: Ledger>(
     vram: &Vram,
@@ -88,7 +88,8 @@ fn read_scattered<G: Gather, L: Ledger>(
     halfwords_of::<G, L>(vram, places.xs, places.ys, k, steps)
 }
 
-// k texels of fifteen bits: at once where there are many and they stand side by side.
+// Returns the first `k` texels of fifteen bits. Uses one load if `G` tests for it, `k` exceeds eight and the texels
+// are contiguous.
 #[inline(always)]
 fn read_wholes<G: Gather, L: Ledger>(
     vram: &Vram,
@@ -113,7 +114,9 @@ fn read_wholes<G: Gather, L: Ledger>(
     }
 }
 
-/// k texels by their coordinates.
+/// Returns the texels at the first `k` coordinates of `at`, 1 to 16. The other lanes have no specified value. Page
+/// and window must be within their limits, and all rows of the page in video memory. Costs at most `k` steps at
+/// depths 2 and 3, and twice as many at depths 0 and 1.
 #[inline(always)]
 pub fn read_texels<G: Gather, L: Ledger>(
     vram: &Vram,
@@ -137,8 +140,7 @@ pub fn read_texels<G: Gather, L: Ledger>(
     }
 }
 
-/// k texels by their coordinates, where they are at most eight: the other lanes become zeros, so that nothing needs to
-/// be reckoned for them.
+/// As [`read_texels`], for 1 to 8 texels. The last eight lanes are 0, so the compiler computes nothing for them.
 #[inline(always)]
 pub fn read_few<L: Ledger>(
     vram: &Vram,
@@ -159,7 +161,7 @@ pub fn read_few<L: Ledger>(
     wanted_lanes(HALF, texels)
 }
 
-// The first eight of these coordinates, and then zeros.
+// Returns the first eight of the coordinates, followed by zeros.
 #[inline(always)]
 fn first_half(at: &Coordinates) -> Coordinates
     requires { AreCoordinates at.now.us × AreCoordinates at.now.vs }

@@ -7,7 +7,7 @@ use px_num::bytes::{bytes_at, joined, narrowed};
 use px_num::lanes::{low_bits, shifted_down};
 use std::simd::prelude::*;
 
-/// Sixteen halfwords by their bytes.
+/// Sixteen halfwords, split into low and high bytes.
 #[derive(Clone, Copy)]
 pub struct Table {
     /// The low bytes.
@@ -16,7 +16,7 @@ pub struct Table {
     pub high: u8x16,
 }
 
-/// The table of sixteen halfwords.
+/// Returns the table of sixteen halfwords.
 #[inline(always)]
 pub fn table_of(entries: u16x16) -> Table
     requires { length entries ≡ 16 }
@@ -29,7 +29,7 @@ pub fn table_of(entries: u16x16) -> Table
     }
 }
 
-/// The entries of sixteen indexes.
+/// Returns the table's entry for each index. Indexes are below 16.
 #[inline(always)]
 pub fn entries_at(table: &Table, indexes: u8x16) -> u16x16
     requires table { IsTable table.now }
@@ -41,7 +41,7 @@ pub fn entries_at(table: &Table, indexes: u8x16) -> u16x16
     joined(bytes_at(table.low, indexes), bytes_at(table.high, indexes))
 }
 
-// The halfwords at sixteen positions.
+// Returns lane `positions[i]` of `cells` in lane `i`. Positions are below 16.
 #[inline(always)]
 pub(crate) fn halfwords_at(cells: u16x16, positions: u16x16) -> u16x16
     requires long { (length cells ≡ 16) × (length positions ≡ 16) }

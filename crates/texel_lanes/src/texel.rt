@@ -10,7 +10,7 @@ use std::sync::ledger::Ledger;
 use texture_page::{clut_cell, index_of, texel_cell};
 use vram_store::{Steps, Vram};
 
-// A cell of a palette, whose row is one of the first 512.
+// Returns a cell of a palette. Its row must be one of the first 512.
 fn palette_entry<L: Ledger>(vram: &Vram, cell: Cell, steps: &mut Steps<L>) -> u16
     requires in_row { cell.x < 1024 }
     requires in_height { cell.y < short_height }
@@ -21,7 +21,8 @@ fn palette_entry<L: Ledger>(vram: &Vram, cell: Cell, steps: &mut Steps<L>) -> u1
     vram.get(cell.x, cell.y, steps)
 }
 
-/// A texel as it is in video memory.
+/// Returns the texel at column `u` and row `v` of the page. Page and window must be within their limits, and all rows
+/// of the page in video memory. Costs at most one step at depths 2 and 3, and two at depths 0 and 1.
 #[tactic(auto, unfolding(crate::specs::Texture::texel))]
 pub fn read_texel<L: Ledger>(
     vram: &Vram,

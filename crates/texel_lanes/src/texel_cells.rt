@@ -1,4 +1,4 @@
-// The cells of the texels of a chunk, their addresses all at once.
+// The cells of up to sixteen texels.
 ghost use Rattle.std.specs.Prelude.{◌≡◌, ◌≤◌, ◌<◌, ◌+◌, ◌%◌, length, slice_index};
 ghost use Rattle.px_num.specs.Lanes.{EachLane};
 ghost use Rattle.texture_page.specs.Page.{IsPage, windowed, column};
@@ -11,7 +11,7 @@ use px_num::lanes::{add, and, low_bits, or, shifted_down, splat};
 use std::simd::prelude::*;
 use texture_page::Page;
 
-// Sixteen coordinates under one direction of a window. Most windows have no bits in their mask.
+// Applies the window's mask and offset of one direction to sixteen coordinates. Most windows have the mask 0.
 #[inline(always)]
 #[tactic(auto, unfolding(texture_page::specs::Page::windowed), using(crate::proofs::ContiguousLemmas::open_window))]
 fn under_window(mask: u8, off: u8, coordinates: u16x16) -> u16x16
@@ -30,7 +30,7 @@ fn under_window(mask: u8, off: u8, coordinates: u16x16) -> u16x16
     )
 }
 
-// The columns of sixteen texels from their page's first cell.
+// Returns the columns of the texels' cells, counted from the page's first cell.
 #[inline(always)]
 fn columns(depth: u8, across: u16x16) -> u16x16
     requires long { length across ≡ 16 }
@@ -69,18 +69,18 @@ fn texel_rows(page: &Page, down: u16x16) -> u16x16
     add(splat(page.y), down)
 }
 
-/// Where sixteen texels stand.
+/// The cells of sixteen texels.
 #[derive(Clone, Copy)]
 pub struct TexelCells {
-    /// Their columns under the window, from the page's first one.
+    /// The texels' columns after the window, counted from the page's first texel.
     pub across: u16x16,
-    /// The columns of their cells in video memory.
+    /// The columns of the texels' cells in video memory.
     pub xs: u16x16,
-    /// The rows of their cells.
+    /// The rows of the texels' cells in video memory.
     pub ys: u16x16,
 }
 
-/// The places of sixteen texels by their coordinates.
+/// Returns the cells of the texels at coordinates `at`.
 #[inline(always)]
 pub fn texel_cells_of(texture: &Texture, at: &Coordinates) -> TexelCells
     requires texture { IsTexture texture.now }

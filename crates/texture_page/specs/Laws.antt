@@ -2,6 +2,6 @@
 use Rattle.std.specs.Prelude.{ℕ, ◌<◌, ◌≡◌}
 use Rattle.texture_page.specs.Page.{windowed}
 
--- a window without mask, whatever its offset, leaves each coordinate
+-- a window with mask 0 leaves each coordinate unchanged, whatever its offset
 abbrev pub OpenWindowLaw : Type 0
 OpenWindowLaw = (off u : ℕ) → u < 256 → windowed 0 off u ≡ u

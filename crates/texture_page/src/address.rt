@@ -1,4 +1,4 @@
-// Addresses of texels and of palette entries.
+// Cells of texels and of palette entries.
 ghost use Rattle.std.specs.Prelude.{◌≡◌, ◌≤◌, ◌<◌, ◌+◌};
 ghost use Rattle.texture_page.specs.Page.{IsPage, IsWindow, windowed, column, texel_place, index_in, index_at};
 ghost use Rattle.texture_page.specs.Page.{clut_place};
@@ -6,10 +6,11 @@ ghost use Rattle.texture_page.specs.Page.{clut_place};
 use crate::{Page, Window};
 use px_num::Cell;
 
-/// The cell of the texel at the column `u` and the row `v` of a page, under a window.
+/// Returns the cell of the texel at column `u` and row `v` of a page. The window is applied first.
 ///
-/// The window comes first. A cell holds four texels at depth 0 and two at depth 1. The column wraps at 1024
-/// (our own rule); the row does not wrap, and is at most 255 below the page's own.
+/// A cell contains four texels at depth 0, two at depth 1, and one at depths 2 and 3. The cell's column wraps at 1024
+/// (our own rule). Its row does not wrap, and is at most 255 rows below the page's first. The fields of page and
+/// window must be within their limits.
 #[inline(always)]
 pub fn texel_cell(page: &Page, window: &Window, u: u8, v: u8) -> Cell
     requires page { IsPage page.now }
@@ -26,7 +27,8 @@ pub fn texel_cell(page: &Page, window: &Window, u: u8, v: u8) -> Cell
     }
 }
 
-/// The palette index of the texel at the column `u`, in the halfword `h` of its cell. The depth is 0 or 1.
+/// Returns the palette index of the texel at column `u`, given the halfword `h` of its cell. The depth is 0 or 1. At
+/// depth 0 the index is below 16.
 pub fn index_of(page: &Page, window: &Window, u: u8, h: u16) -> u8
     requires page { IsPage page.now }
     requires window { IsWindow window.now }
@@ -37,8 +39,8 @@ pub fn index_of(page: &Page, window: &Window, u: u8, h: u16) -> u8
     index_part(page.depth, under_window(window.mask_x, window.off_x, u), h)
 }
 
-/// The cell of an entry of a palette. Bits 0 to 5 of the palette's attribute are its column over 16, and bits
-/// 6 to 14 its row; bit 15 does not matter. The column wraps at 1024 (our own rule).
+/// Returns the cell of a palette entry. Bits 0 to 5 of `clut` are the palette's column divided by 16, bits 6 to 14
+/// its row; bit 15 is ignored. The column wraps at 1024 (our own rule).
 pub fn clut_cell(clut: u16, index: u8) -> Cell
     ensures value { result ≡ clut_place clut index }
     ensures in_row { result.x < 1024 }

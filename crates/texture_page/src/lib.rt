@@ -1,7 +1,7 @@
-//! Where the texels of a texture page stand in video memory, and the entries of a palette (CLUT).
+//! Addresses of the texels of a texture page and of palette (CLUT) entries in video memory.
 //!
-//! These are addresses alone: no cell is looked at. A page begins at any column up to 960 and any row up to
-//! 768, so pages of a video memory of 1024 rows are served too.
+//! The functions compute addresses and access no cell. A page starts at any column up to 960 and any row up to 768,
+//! so pages of video memory of 1024 rows are included.
 #![tactic(auto)]
 
 mod address;

@@ -1,4 +1,4 @@
--- Runs of cells that are copied at once or one after another.
+-- Copying a run of cells at once equals copying them one after another.
 use Rattle.std.proofs.Common.{◌≡◌, ◌<◌, ◌≤◌, ◌⊎◌, inl, inr, ◌+◌, ◌*◌, ◌-◌, ◌/◌, ◌%◌, ℕ, Bool, true, false, cond}
 use Rattle.std.proofs.Common.{List, Option, Some, None, length, get_or, arith, refl, ap, sym, ◌∙◌}
 use Rattle.std.proofs.lemmas.Bool.{cases_lt}
@@ -20,7 +20,7 @@ pub plot_untested : (m : List ℕ) (mask x y color : ℕ) → is_testing mask �
 unfolding plot
 plot_untested m mask x y color off = rw (kept_untested mask (at m x y) off) refl
 
--- ---- a plot asks the two bits of the setting alone
+-- ---- a plot depends only on the two bits of the setting
 
 pub plot_alike : (m : List ℕ) (a b x y color : ℕ) → is_testing a ≡ is_testing b → is_forcing a ≡ is_forcing b
     → plot m a x y color ≡ plot m b x y color
@@ -42,7 +42,7 @@ pub no_bit : (is_testing 0 ≡ false) × (is_forcing 0 ≡ false)
 unfolding is_testing is_forcing
 no_bit = (refl, refl)
 
--- the number of a cell
+-- the index of a cell
 abbrev pub place : Cell → ℕ
 place cell = 1024 * cell.y + cell.x
 
@@ -63,7 +63,7 @@ run_is m mask s t n =
     ∙ ap (λ p. draw_at mask p (Some (get_or cells (1024 * s.y + (s.x + i)) 0)) cells) there
     ∙ ap (λ p. draw_at mask (place t + i) (Some (get_or cells p 0)) cells) here)
 
--- ---- without a hazard no lane reads what an earlier one writes
+-- ---- without a hazard no lane reads a cell that an earlier one writes
 
 away : (s t : Cell) (n j : ℕ) → ¬ (HasCopyHazard s t n) → s.x + n ≤ 1024 → t.x + n ≤ 1024 → j < n
     → (place s + j < place t) ⊎ (place t + j ≤ place s + j)
@@ -87,7 +87,7 @@ pub lane_of : (kept : Bool) (b h color cell : ℕ) → b ≡ cond kept 0 1 → h
 lane_of true b h color cell e f = inl (λ one. absurd (omega (arith, e, one)))
 lane_of false b h color cell e f = (e, f)
 
--- what one store writes for a run: each colour as it is written, and each bit as the cell is open
+-- one store for a run: each colour with the mask setting applied, and a bit for each cell that is not protected
 pub record IsLaneRun (m : List ℕ) (mask : ℕ) (s t : Cell) (of : Lanes) : Type 0 where
   pub colors : (j : ℕ) → j < of.n → get_or of.lanes j 0 ≡ forced mask (get_or m (place s + j) 0)
   pub open_cells : (j : ℕ) → j < of.n → bit of.bits j ≡ cond (is_kept mask (get_or m (place t + j) 0)) 0 1
@@ -112,7 +112,7 @@ free_of s t n off hazard = let on = (copy_iff s t n).1 hazard in cc
 
 -- ---- chunks of a piece
 
--- a hazard hangs on how far apart the two sides are
+-- a hazard depends on the distance of the two sides
 pub shifted_hazard : (s t : Cell) (d k : ℕ) → has_copy_hazard (beside s d) (beside t d) k ≡ has_copy_hazard s t k
 shifted_hazard s t d k =
     same_bool (has_copy_hazard (beside s d) (beside t d) k) (has_copy_hazard s t k)
@@ -122,7 +122,7 @@ shifted_hazard s t d k =
       λ h. (copy_iff s t k).1 (h.0, h.1, (h.2.0, h.2.1, (omega (arith, h.2.2.0), h.2.2.1))),
     )
 
--- fewer cells have none either
+-- fewer cells have no hazard either
 pub shorter_free : (s t : Cell) (n k : ℕ) → has_copy_hazard s t n ≡ false → k ≤ n → has_copy_hazard s t k ≡ false
 shorter_free s t n k free le =
     false_of (has_copy_hazard s t k) (copy_iff s t k) (λ h. free_of s t n free (h.0, omega (arith, h.1, le), h.2))
@@ -131,7 +131,7 @@ pub free_beside : (s t : Cell) (n d k : ℕ) → has_copy_hazard s t n ≡ false
     → has_copy_hazard (beside s d) (beside t d) k ≡ false
 free_beside s t n d k free le = shifted_hazard s t d k ∙ shorter_free s t n k free le
 
--- the same of the cells as they are called
+-- the same for cells that are equal to the moved cells
 pub free_of_both : (s t source target : Cell) (d n k : ℕ) → source ≡ beside s d → target ≡ beside t d
     → has_copy_hazard s t n ≡ false → k ≤ n
     → has_copy_hazard source target k ≡ false
@@ -191,7 +191,7 @@ row_more m now new mask s t source target done n at_s at_t room_s room_t so_far 
     ∙ row_and_run m mask s t done n (rw (← ap (λ (cell : Cell). cell.x) at_s) room_s)
     (rw (← ap (λ (cell : Cell). cell.x) at_t) room_t)
 
--- all rows, at the height that video memory has
+-- all rows, at the height of video memory
 pub copied_is_whole : (height : ℕ) (m new : List ℕ) (mask : ℕ) (sides : Sides) (w j h : ℕ) → length m ≡ 1024 * height
     → new ≡ copied_rows height m mask sides (record { w = w; h = j }) → j ≡ h
     → new ≡ copied_rectangle m mask sides (record { w = w; h = h })

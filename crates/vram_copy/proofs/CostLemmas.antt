@@ -1,4 +1,4 @@
--- The steps of a row, chunk by chunk.
+-- The cost of a row, chunk by chunk.
 use Rattle.std.proofs.Common.{◌≡◌, ◌<◌, ◌≤◌, cond, eqb, inl, inr, ◌+◌, ◌*◌, ◌-◌, ◌%◌, ◌/◌, List, length, ℕ, zero, suc}
 use Rattle.std.proofs.Common.{true, false, min, arith, refl, ap, sym, ◌∙◌, add-zero}
 use Rattle.std.proofs.lemmas.Bool.{cases_lt, cases_eq, eqb-true, eq-eqb}
@@ -14,7 +14,7 @@ use Rattle.overlap_guard.specs.Hazard.{has_copy_hazard}
 
 -- ---- which cells begin a chunk
 
--- a distance from the last cut grows by one a cell, as long as nothing wraps
+-- the distance from the last cut grows by 1 from cell to cell, unless a side wraps
 since_more : (a b i k : ℕ) → a % 1024 + k < 1024 → b % 1024 + k < 1024
     → min (i + k) (min ((a + k) % 1024) ((b + k) % 1024)) ≡ min i (min (a % 1024) (b % 1024)) + k
 since_more a b i k room_a room_b =
@@ -34,7 +34,7 @@ begins_no : (s t : Cell) (i : ℕ) → 0 < since_cut s t i % 16 → begins_chunk
 unfolding begins_chunk
 begins_no s t i some = grind (arith, nat_tests)
 
--- sixteen cells on, or where a side wraps, the distance is a multiple of sixteen again
+-- sixteen cells further, or if a side wraps, the distance is a multiple of sixteen again
 sixteen_on : (a b i n left : ℕ) → min i (min (a % 1024) (b % 1024)) % 16 ≡ 0 → n ≡ chunk_len (a % 1024) (b % 1024) left
     → n < left
     → min (i + n) (min ((a + n) % 1024) ((b + n) % 1024)) % 16 ≡ 0
@@ -47,9 +47,9 @@ sixteen_on a b i n left whole size more = elim (cases_lt (a % 1024 + n) 1024) [
   | inr over ↦ let e : (a + n) % 1024 ≡ 0 = omega (arith, size, over) in rw e (omega arith)
 ]
 
--- ---- a chunk and the cells behind its first
+-- ---- a chunk and the cells after its first
 
--- what makes a chunk of n cells at cell i, and what follows for its later cells
+-- the conditions of a chunk of n cells at cell i, and their consequences for its later cells
 module _ (s t : Cell) (w i n : ℕ) (begun : begins_chunk s t i ≡ true) (size : n ≡ chunk_at s t w i) where
   whole : since_cut s t i % 16 ≡ 0
   whole = begins_is s t i begun
@@ -77,7 +77,7 @@ module _ (s t : Cell) (w i n : ℕ) (begun : begins_chunk s t i ≡ true) (size 
       ∙ ap (λ b. min (i + n) (min ((s.x + i + n) % 1024) (b % 1024)) % 16) y
       ∙ sixteen_on (s.x + i) (t.x + i) i n (w - i) whole size (omega (arith, more)))
 
-  -- ---- its steps
+  -- ---- its cost
 
   cost_none : (k : ℕ) → begins_chunk s t k ≡ false → cell_cost s t w k ≡ 0
   cost_none k off = rw off refl
@@ -127,7 +127,7 @@ piece_next s t done k whole some most = elim (cases_lt k 16) [
       rw (e, quotient, rest, whole) (omega arith)
 ]
 
--- a chunk more of a piece
+-- one more chunk of a piece
 pub piece_spent : (s t source target : Cell) (done k start now new : ℕ) → source ≡ beside s done
     → target ≡ beside t done
     → done % 16 ≡ 0 → 1 ≤ k → k ≤ 16 → now ≤ start + piece_cost s t done → new ≤ now + chunk_cost source target k
@@ -139,7 +139,7 @@ piece_spent s t source target done k start now new at_s at_t whole some most so_
     let sum = piece_next s t done k whole some most in
     omega (arith, price, sum, so_far, step)
 
--- a chunk that was moved at once
+-- a chunk that is copied at once
 pub free_spent : (s t source target : Cell) (done k start now new : ℕ) → source ≡ beside s done → target ≡ beside t done
     → has_copy_hazard source target k ≡ false → done % 16 ≡ 0 → 1 ≤ k → k ≤ 16 → now ≤ start + piece_cost s t done
     → new ≤ now + 3
@@ -153,7 +153,7 @@ free_spent s t source target done k start now new at_s at_t free whole some most
 right_on : (s : Cell) (i d : ℕ) → (s.x + i) % 1024 + d < 1024 → right s (i + d) ≡ beside (right s i) d
 right_on s i d room = let x : (s.x + (i + d)) % 1024 ≡ (s.x + i) % 1024 + d = omega (arith, room) in rw x refl
 
--- behind d cells of a piece that begins at cell i: what they cost, and that a chunk begins there
+-- after d cells of a piece that begins at cell i: their cost, and that a chunk begins there
 record IsSpent (s t : Cell) (w i d : ℕ) : Type 0 where
   spent : cost_below s t w (i + d) ≡ cost_below s t w i + piece_cost (right s i) (right t i) d
   begins : i + d < w → begins_chunk s t (i + d) ≡ true
@@ -198,7 +198,7 @@ module _ (s t : Cell) (w i n : ℕ) (size : n ≡ piece_len ((s.x + i) % 1024) (
         (omega (arith, some)) (omega arith))
   ]
 
--- a piece more of a row
+-- one more piece of a row
 module _ (s t source target : Cell) (w done n : ℕ) (at_s : source ≡ right s done) (at_t : target ≡ right t done)
     (begun : begins_chunk s t done ≡ true) (long : n ≡ piece_len source.x target.x (w - done)) where
   piece : IsSpent s t w done n

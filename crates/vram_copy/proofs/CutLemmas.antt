@@ -1,4 +1,4 @@
--- How a copied row is cut, and what its chunks come to.
+-- How a copied row is cut, and the cost of its chunks.
 use Rattle.std.proofs.Common.{◌≡◌, ◌<◌, ◌≤◌, inl, inr, ◌+◌, ◌*◌, ◌-◌, ◌%◌, ◌/◌, ℕ, zero, suc, Bool, true, false, cond}
 use Rattle.std.proofs.Common.{arith, subst, refl}
 use Rattle.std.proofs.lemmas.Bool.{cases_lt}
@@ -34,7 +34,7 @@ none_between s t i k above le (inr (inr of_t)) = uncut_from t.x i k le (omega (a
 pub last_cut : LastCutLaw
 last_cut s t i = (cut_before s t i, λ k above le. none_between s t i k above le)
 
--- ---- chunk behind chunk
+-- ---- chunk after chunk
 
 past_cut : (a i k : ℕ) → 0 < k → (a + i) % 1024 + k < 1024 → (a + (i + k)) % 1024 ≡ 0 → ⊥
 past_cut a i k some room cut = omega arith
@@ -57,7 +57,7 @@ chunk_is s t w i lt begun = record {
 pub chunks : ChunksLaw
 chunks s t w = (first_begins s t, λ i lt begun. chunk_is s t w i lt begun)
 
--- ---- at most three steps a cell
+-- ---- at most three steps per cell
 
 chunk_most : (s t : Cell) (n : ℕ) → 1 ≤ n → chunk_cost s t n ≤ 3 * n
 unfolding chunk_cost

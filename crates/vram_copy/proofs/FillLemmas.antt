@@ -1,4 +1,4 @@
--- Sixteen cells set at once are sixteen cells set one after another.
+-- Setting sixteen cells at once equals setting them one after another.
 use Rattle.std.proofs.Common.{◌≡◌, ◌+◌, ◌*◌, ◌/◌, ◌%◌, ℕ, List, Some, length, get_or, slice_set, replicate, arith, refl}
 use Rattle.std.proofs.Common.{ap, sym, ◌∙◌}
 use Rattle.std.proofs.lemmas.Simd.{get_or-replicate}
@@ -15,7 +15,7 @@ use Rattle.vram_copy.specs.Fill.{filled_row, filled_rows, filled_rectangle}
 use Rattle.vram_copy.specs.Rect.{right}
 use Rattle.vram_copy.proofs.CopyLemmas.{place}
 
--- without the mask setting a halfword is written as it is
+-- with mask setting 0 a halfword is written as it is
 set_over : (cell color : ℕ) → written_over 0 cell (Some color) ≡ Some color
 unfolding is_testing is_forcing
 set_over cell color = rw (kept_untested 0 cell refl, forced_off 0 color refl) refl
@@ -27,7 +27,7 @@ draws_set : (color start j : ℕ) (m : List ℕ) → draw_lane (λ i cells. Some
     ≡ slice_set m (start + j) color
 draws_set color start j m = rw (set_over (get_or m (start + j) 0) color) refl
 
--- n cells of a row from a place on
+-- n cells of a row from an index on
 abbrev pub run_of : List ℕ → ℕ → ℕ → ℕ → List ℕ
 run_of m start color n = each_below (λ i cells. slice_set cells (start + i) color) n m
 
@@ -49,7 +49,7 @@ stored_run old new start color stored =
     ∙ each_below-same (draw_lane (λ i cells. Some color) 0 start) (λ i cells. slice_set cells (start + i) color) 16 old
     (λ i cells lt. draws_set color start i cells)
 
--- sixteen cells more of a row
+-- sixteen more cells of a row
 pub row_chunk : (m old new : List ℕ) (first : Cell) (k color : ℕ) → first.x % 16 ≡ 0
     → old ≡ filled_row m first (16 * k) color → new ≡ run_of old (place (right first (16 * k))) color 16
     → new ≡ filled_row m first (16 * (k + 1)) color
@@ -63,7 +63,7 @@ row_chunk m old new first k color whole so_far ran =
     (λ i cells lt. let at : place (right first (16 * k + i)) ≡ place (right first (16 * k)) + i = omega arith in
     ap (λ n. slice_set cells n color) at)))
 
--- all rows, at the height that video memory has
+-- all rows, at the height of video memory
 pub filled_is_whole : (height : ℕ) (m new : List ℕ) (first : Cell) (w j h color : ℕ) → length m ≡ 1024 * height
     → new ≡ filled_rows height m first (record { w = w; h = j }) color → j ≡ h
     → new ≡ filled_rectangle m first (record { w = w; h = h }) color

@@ -21,7 +21,7 @@ halves word zero lt = omega arith
 halves word (suc zero) lt = omega arith
 halves word (suc (suc r)) lt = absurd (omega (arith, lt))
 
--- eight words as thirty-two bytes as sixteen halfwords
+-- eight words, split into 32 bytes and joined to sixteen halfwords
 pub half_is : (words : List ℕ) (at j n8 n16 : ℕ) → n8 ≡ 32 → n16 ≡ 16 → ((k : ℕ) → Fits w32 (get_or words k 0)) → j < 16
     → get_or (digits_l (2 ^ 16) n16 (number_l 256 (digits_l 256 n8 (number_l (2 ^ 32) (chunk at 8 words))))) j 0
     ≡ half_of (get_or words (at + j / 2) 0) (j % 2)
@@ -45,7 +45,7 @@ half_is words at j n8 n16 e f fit lt =
     ∙ halves (get_or eight (j / 2) 0) (j % 2) (omega arith)
     ∙ ap (λ w. half_of w (j % 2)) word
 
--- pixel j behind an even one
+-- pixel j after an even one
 pub pixel_behind : (words : List ℕ) (first j : ℕ) → first % 2 ≡ 0
     → half_of (get_or words (first / 2 + j / 2) 0) (j % 2) ≡ pixel_of words (first + j)
 pixel_behind words first j whole =

@@ -36,7 +36,7 @@ run_is m mask words s =
     plot_is cells mask (s.to.x + i) s.to.y (pixel_of words (s.first + i))
     ∙ ap (λ p. draw_at mask p (Some (pixel_of words (s.first + i))) cells) there)
 
--- one store of pixels, each as it is written, with a bit for each cell that is open
+-- one store of pixels, each with the mask setting applied, with a bit for each cell that is not protected
 pub run_at_once : (old new : List ℕ) (mask : ℕ) (words : List ℕ) (to : Cell) (first : ℕ) (of : Lanes)
     → ((j : ℕ) → j < of.n → get_or of.lanes j 0 ≡ forced mask (pixel_of words (first + j)))
     → ((j : ℕ) → j < of.n → bit of.bits j ≡ cond (is_kept mask (get_or old (place to + j) 0)) 0 1)
@@ -57,7 +57,7 @@ load_alike m a b words s tests forces =
     (λ i cells. plot cells b (s.to.x + i) s.to.y (pixel_of words (s.first + i))) s.n m
     (λ i cells lt. plot_alike cells a b (s.to.x + i) s.to.y (pixel_of words (s.first + i)) tests forces)
 
--- n cells behind a stretch
+-- n cells after a stretch
 abbrev pub behind : Stretch → ℕ → Stretch
 behind s n = record { to = beside s.to s.n; first = s.first + s.n; n = n }
 
@@ -80,7 +80,7 @@ run_more m now new mask words s n so_far ran =
 
 -- ---- runs of a rectangle
 
--- a pixel of words is plotted at the cell of a number; pixel i of those that come to a transfer
+-- a pixel of words is plotted at its cell; pixel i of the words that a transfer receives
 abbrev plotted : (height mask : ℕ) → Load → (number i : ℕ) → List ℕ → List ℕ
 plotted height mask load number i cells = plot cells mask (pixel_cell height load.job number).x
     (pixel_cell height load.job number).y (pixel_of load.words i)
@@ -124,7 +124,7 @@ loaded_more height m now new mask load here to done n is at in_row room so_far r
     (cell_on height load.job here to (load.job.at + done) i is at (omega (arith, in_row, lt))
     (omega (arith, room, lt)))))
 
--- ---- word after word is pixel after pixel
+-- ---- plotting word by word equals plotting pixel by pixel
 
 length-plot : (m : List ℕ) (mask x y color : ℕ) → length (plot m mask x y color) ≡ length m
 length-plot m mask x y color = ap (λ cells. length cells) (plot_is m mask x y color) ∙ length-put_at _ _ m
@@ -191,7 +191,7 @@ words_are_pixels height m mask job (word ∷ words) rows wanted =
     ∙ ap (λ rows. loaded rows m mask one (pixels_next job)) rows)
     ∙ words_are_pixels height now mask (advanced job) words same (omega (arith, wanted))
 
--- all pixels of the words, at the height that video memory has
+-- all pixels of the words, at the height of video memory
 pub words_done : (height : ℕ) (m new : List ℕ) (mask : ℕ) (load : Load) (done : ℕ)
     → height ≡ height_of m → length load.words ≤ words_left load.job
     → done ≡ pixels_in load.job (length load.words) → new ≡ loaded height m mask load done

@@ -8,7 +8,7 @@ use Rattle.vram_copy.specs.declared.place.Place.{Place}
 use Rattle.vram_copy.specs.declared.transfer.Transfer.{Transfer}
 use Rattle.vram_copy.specs.Words.{pixel_cell, stored_word}
 
--- the cell at a place
+-- the cell at a position
 pub cell_is : (height : ℕ) (job : Transfer) (place : Place) (i x y : ℕ) → IsPlace job.w place i
     → x ≡ (job.x + place.column) % 1024 → y ≡ (job.y + place.row) % height
     → ◌≡◌ {A = Cell} (record { x = x; y = y }) (pixel_cell height job i)
@@ -45,7 +45,7 @@ store_one height m job word low first rows e lows some last joined =
     let once = one_left (job.w * job.h) job.at some last in
     rw (once, joined, lows, e, ← rows, no_more job.at) (omega arith)
 
--- two pixels on
+-- two pixels further
 pub two_on : (width at : ℕ) (first second third : Place) → IsPlace width first at
     → ((i : ℕ) → IsPlace width first i → IsPlace width second (i + 1))
     → ((i : ℕ) → IsPlace width second i → IsPlace width third (i + 1))

@@ -1,5 +1,5 @@
--- Rectangles that are copied (psx-spx, GP0(80h) "Copy Rectangle (VRAM to VRAM)"). Our own rule: pixel after
--- pixel, row by row and from left to right, each pixel read as video memory is then.
+-- Copies of rectangles (psx-spx, GP0(80h) "Copy Rectangle (VRAM to VRAM)"). Our own rule: pixels are copied one by
+-- one, row by row and from left to right. Each is read from video memory as it is when its turn comes.
 use Rattle.std.specs.Prelude.{ℕ, List, ◌+◌}
 use Rattle.px_num.specs.Fold.{each_below}
 use Rattle.px_num.specs.declared.shape.Cell.{Cell}
@@ -24,7 +24,7 @@ copied_rows height m mask sides size =
 unfoldable pub copied_rectangle : List ℕ → ℕ → Sides → Size → List ℕ
 copied_rectangle m mask sides size = copied_rows (height_of m) m mask sides size
 
--- n cells that leave no row, one after another
+-- n cells within one row, one after another
 abbrev pub copied_run : List ℕ → ℕ → Cell → Cell → ℕ → List ℕ
 copied_run m mask source target n =
     each_below (λ i cells. plot cells mask (target.x + i) target.y (at cells (source.x + i) source.y)) n m

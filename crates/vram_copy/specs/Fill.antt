@@ -5,7 +5,7 @@ use Rattle.px_num.specs.declared.shape.Cell.{Cell}
 use Rattle.vram_store.specs.Vram.{height_of, set}
 use Rattle.vram_copy.specs.Rect.{Size, right, down}
 
--- w cells of a row are set, from one to the right; X wraps at 1024
+-- w cells of a row are set, from the first to the right; X wraps at 1024
 abbrev pub filled_row : List ℕ → Cell → ℕ → ℕ → List ℕ
 filled_row m first w color = each_below (λ i cells. set cells (right first i).x first.y color) w m
 

@@ -12,27 +12,27 @@ use Rattle.vram_copy.specs.declared.transfer.Transfer.{Transfer}
 abbrev pub pixel_cell : ℕ → Transfer → ℕ → Cell
 pixel_cell height job i = record { x = (job.x + i % job.w) % 1024; y = (job.y + i / job.w) % height }
 
--- how many pixels the next word has
+-- the number of pixels of the next word
 abbrev pub pixels_next : Transfer → ℕ
 pixels_next job = min 2 (job.w * job.h - job.at)
 
--- how many pixels the next n words have
+-- the number of pixels of the next n words
 abbrev pub pixels_in : Transfer → ℕ → ℕ
 pixels_in job n = min (2 * n) (job.w * job.h - job.at)
 
--- the transfer behind its next word
+-- the transfer after its next word
 abbrev pub advanced : Transfer → Transfer
 advanced job = record { x = job.x; y = job.y; w = job.w; h = job.h; at = job.at + pixels_next job }
 
--- the transfer behind its next n words
+-- the transfer after its next n words
 abbrev pub advanced_by : Transfer → ℕ → Transfer
 advanced_by job n = record { x = job.x; y = job.y; w = job.w; h = job.h; at = job.at + pixels_in job n }
 
--- how many words the transfer still wants
+-- the number of words that the transfer still needs
 abbrev pub words_left : Transfer → ℕ
 words_left job = (job.w * job.h - job.at + 1) / 2
 
--- the transfer that is still open behind its next word: none where that was the last
+-- the transfer after its next word if it is not complete then, else none
 abbrev pub after_word : Transfer → Option Transfer
 after_word job = if nat_lt (job.at + pixels_next job) (job.w * job.h) then Some (advanced job) else None
 
@@ -40,11 +40,11 @@ after_word job = if nat_lt (job.at + pixels_next job) (job.w * job.h) then Some 
 abbrev pub half_of : ℕ → ℕ → ℕ
 half_of word i = word / 2 ^ (16 * i) % 2 ^ 16
 
--- pixel number i of some words
+-- pixel number i of the words
 abbrev pub pixel_of : List ℕ → ℕ → ℕ
 pixel_of words i = half_of (slice_index words (i / 2)) (i % 2)
 
--- a transfer with the next words that come to it
+-- a transfer with the words that follow
 pub record Load : Type 0 where
   pub job : Transfer
   pub words : List ℕ

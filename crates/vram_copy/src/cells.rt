@@ -1,10 +1,10 @@
-// Cells of a rectangle, counted from its first.
+// Cells of a rectangle, relative to its first.
 ghost use Rattle.std.specs.Prelude.{◌≡◌, ◌≤◌, ◌<◌, ◌+◌};
 ghost use Rattle.vram_copy.specs.Rect.{beside, right, down};
 
 use px_num::{Cell, wrap_at, wrap_x};
 
-/// The cell `i` columns to the right. X wraps at 1024.
+/// Returns the cell `i` columns to the right. X wraps at 1024.
 pub fn cell_right(cell: Cell, i: u16) -> Cell
     ensures value { result ≡ right cell i }
     ensures in_row { result.x < 1024 }
@@ -15,7 +15,7 @@ pub fn cell_right(cell: Cell, i: u16) -> Cell
     }
 }
 
-/// The cell `j` rows below. Y wraps at the height.
+/// Returns the cell `j` rows below. Y wraps at `height`.
 pub fn cell_down(cell: Cell, j: u16, height: u16) -> Cell
     requires { 1 ≤ height }
     ensures value { result ≡ down height cell j }
@@ -27,7 +27,7 @@ pub fn cell_down(cell: Cell, j: u16, height: u16) -> Cell
     }
 }
 
-/// The cell so many columns to the right, in a row that is not left.
+/// Returns the cell `i` columns to the right, which must be in the same row.
 #[inline(always)]
 pub fn cell_beside(cell: Cell, i: u16) -> Cell
     requires { cell.x + i < 1024 }

@@ -1,4 +1,4 @@
-// Whole chunks of sixteen cells, in a row that does not meet itself.
+// Copies of whole chunks of sixteen cells, in a row without a hazard.
 ghost use Rattle.std.specs.Prelude.{◌≡◌, ◌≤◌, ◌<◌, ◌+◌, ◌*◌, false, length};
 ghost use Rattle.overlap_guard.specs.Hazard.{has_copy_hazard};
 ghost use Rattle.vram_store.specs.Vram.{height_of};
@@ -13,7 +13,7 @@ use std::sync::ledger::Ledger;
 use vram_store::mask::{force_lanes, forces, tests};
 use vram_store::{Steps, Vram};
 
-/// The first cell that is read, and the first that is written.
+/// The first source cell and the first target cell of a copy.
 #[derive(Clone, Copy)]
 pub(crate) struct Way {
     pub(crate) from: Cell,
@@ -21,7 +21,7 @@ pub(crate) struct Way {
 }
 
 impl Way {
-    /// So many columns to the right, in rows that are not left.
+    /// Moves both cells `i` columns to the right. Neither may leave its row.
     #[inline(always)]
     pub(crate) fn beside(self, i: u16) -> Way
         requires from { self.from.x + i < 1024 }
@@ -36,7 +36,8 @@ impl Way {
     }
 }
 
-/// Copies so many chunks. The mask setting is asked once.
+/// Copies `count` chunks of sixteen cells within one row. A copy of sixteen cells from `way` must have no hazard. The
+/// mask setting is tested once for all chunks.
 #[inline(never)]
 pub(crate) fn copy_chunks<L: Ledger>(
     vram: &mut Vram,
@@ -61,7 +62,7 @@ pub(crate) fn copy_chunks<L: Ledger>(
     }
 }
 
-// The same, compiled for each setting.
+// As `copy_chunks`, compiled separately for each constant mask setting.
 #[inline(always)]
 fn copy_each<L: Ledger>(vram: &mut Vram, mask: u8, way: Way, count: u16, steps: &mut Steps<L>)
     requires source_in { LieInRow (height_of vram.old) way.from (16 * count) }
@@ -76,7 +77,8 @@ fn copy_each<L: Ledger>(vram: &mut Vram, mask: u8, way: Way, count: u16, steps: 
     }
 }
 
-/// All cells together, where none is read after it was written.
+/// Copies `n` cells, 1 to 16, with one load and one store. No cell may be read after an earlier lane writes it. Costs
+/// at most three steps.
 #[inline(always)]
 pub(crate) fn copy_at_once<L: Ledger>(
     vram: &mut Vram,

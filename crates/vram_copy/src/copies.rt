@@ -1,4 +1,4 @@
-// Copies in chunks of up to sixteen cells, under the guard.
+// Copies in chunks of up to sixteen cells, with a test for hazards.
 ghost use Rattle.std.specs.Prelude.{◌≡◌, ◌≤◌, ◌<◌, ◌+◌, ◌-◌, ◌*◌, false, min, length};
 ghost use Rattle.overlap_guard.specs.Hazard.{has_copy_hazard};
 ghost use Rattle.vram_store.specs.Vram.{height_of};
@@ -14,14 +14,14 @@ use px_num::Cell;
 use std::sync::ledger::Ledger;
 use vram_store::{Steps, Vram};
 
-/// Copies `h` rows of `w` cells from one place to another, plotting them under the mask setting
-/// (psx-spx, GP0(80h)).
+/// Copies `h` rows of `w` cells from `from` to `to`, plotting each cell under the mask setting (psx-spx, GP0(80h)).
 ///
-/// It leaves what copying pixel after pixel leaves, from left to right in each row and rows from
-/// the top, where each pixel is read as video memory is then: a copy onto cells that it reads later
-/// repeats what it wrote (our own rule). X wraps at 1024 and Y at the height. A row is cut where
-/// source or target wraps and each piece into chunks of up to sixteen cells; a chunk takes at most
-/// three steps, and three for each of its cells where it reads what it writes.
+/// The result is that of copying pixel by pixel, from left to right in each row and rows from the top. Each pixel is
+/// read from video memory as it is when its turn comes. So a copy to cells that are read later repeats what it wrote
+/// (our own rule). X wraps at 1024 and Y at the height.
+///
+/// A row is cut into pieces at the columns at which source or target wraps, and each piece into chunks of up to
+/// sixteen cells. A chunk costs at most three steps. With a hazard, it costs at most three for each of its cells.
 pub fn copy<L: Ledger>(
     vram: &mut Vram,
     mask: u8,
@@ -63,7 +63,8 @@ fn copy_row<L: Ledger>(vram: &mut Vram, mask: u8, way: Way, w: u16, steps: &mut 
     }
 }
 
-// How many cells the next piece has: to the row's end or to where a side wraps.
+// Returns the number of cells of the next piece: to the end of the copied row, or until the source or the target
+// wraps.
 #[inline(always)]
 fn piece_len(source_x: u16, target_x: u16, left: u16) -> u16
     requires source_in { source_x < 1024 }
@@ -78,7 +79,8 @@ fn piece_len(source_x: u16, target_x: u16, left: u16) -> u16
     left.min((1024 - source_x).min(1024 - target_x))
 }
 
-// Cells that leave no row. The guard is asked once: both sides go on by as much, so they stay as far apart.
+// Copies `n` cells within one row. The hazard of the first chunk is tested once: later chunks have the same distance
+// between source and target.
 #[inline(always)]
 fn copy_piece<L: Ledger>(vram: &mut Vram, mask: u8, way: Way, n: u16, steps: &mut Steps<L>)
     requires some { 1 ≤ n }
@@ -95,7 +97,7 @@ fn copy_piece<L: Ledger>(vram: &mut Vram, mask: u8, way: Way, n: u16, steps: &mu
     }
 }
 
-// A piece that does not meet itself, in whole chunks and a last one.
+// Copies a piece without a hazard, in whole chunks and a last, shorter one.
 #[inline(always)]
 fn copy_apart<L: Ledger>(vram: &mut Vram, mask: u8, way: Way, n: u16, steps: &mut Steps<L>)
     requires source_in { LieInRow (height_of vram.old) way.from n }
@@ -112,7 +114,7 @@ fn copy_apart<L: Ledger>(vram: &mut Vram, mask: u8, way: Way, n: u16, steps: &mu
     }
 }
 
-// A piece, chunk by chunk under the guard.
+// Copies a piece chunk by chunk, with a test for a hazard in each.
 fn copy_guarded<L: Ledger>(vram: &mut Vram, mask: u8, way: Way, n: u16, steps: &mut Steps<L>)
     requires source_in { LieInRow (height_of vram.old) way.from n }
     requires target_in { LieInRow (height_of vram.old) way.to n }
@@ -144,7 +146,7 @@ fn copy_chunk<L: Ledger>(vram: &mut Vram, mask: u8, way: Way, n: u8, steps: &mut
     }
 }
 
-// Cell after cell.
+// Copies `n` cells one after another.
 fn copy_in_turn<L: Ledger>(vram: &mut Vram, mask: u8, way: Way, n: u8, steps: &mut Steps<L>)
     requires source_in { LieInRow (height_of vram.old) way.from n }
     requires target_in { LieInRow (height_of vram.old) way.to n }

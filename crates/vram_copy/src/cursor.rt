@@ -1,4 +1,4 @@
-// A transfer with the place of its next pixel.
+// A transfer with the position of its next pixel.
 ghost use Rattle.std.specs.Prelude.{ℕ, ◌≡◌, ◌≤◌, ◌<◌, ◌+◌, ◌*◌, ◌/◌, ◌%◌, ◌^◌, length, min, nat_lt};
 ghost use Rattle.vram_copy.specs.Words.{advanced, advanced_by, pixels_in, pixels_next, words_left};
 ghost use Rattle.vram_copy.specs.Words.{loaded_word, loaded_words, stored_word};
@@ -10,8 +10,8 @@ use std::marker::Model;
 use std::sync::ledger::Ledger;
 use vram_store::{Steps, Vram};
 
-/// A transfer with the column and the row of its next pixel beside it, so that no pixel costs a division. Contracts see
-/// it as the transfer.
+/// A transfer together with the column and row of its next pixel, so that no pixel needs a division. In contracts it
+/// is the transfer.
 #[derive(Drop)]
 pub struct Cursor {
     job: Transfer,
@@ -29,7 +29,7 @@ impl Model for Cursor {
     ghost invariant = { λ c. IsPlace c.job.w c.place c.job.at };
 }
 
-// How many pixels the next n words have.
+// Returns the number of pixels in the next `n` words.
 fn count_pixels(job: &Transfer, n: usize) -> u32
     requires { n ≤ words_left job.now }
     ensures { result ≡ pixels_in job.now n }
@@ -39,7 +39,7 @@ fn count_pixels(job: &Transfer, n: usize) -> u32
 }
 
 impl Cursor {
-    /// A transfer, wherever it is.
+    /// Returns a cursor for `job`, at its next pixel. At least one pixel must be left.
     pub fn new(job: Transfer) -> Cursor
         requires { job.at < job.w * job.h }
         ensures { result ≡ job }
@@ -51,22 +51,22 @@ impl Cursor {
         Cursor { job, place }
     }
 
-    /// The transfer.
+    /// Returns the transfer.
     pub fn job(&self) -> Transfer
         ensures { result ≡ self.now }
     {
         self.job
     }
 
-    /// Whether a pixel is left.
+    /// Returns whether a pixel is left.
     pub fn has_more(&self) -> bool
         ensures { result ≡ nat_lt self.now.at (self.now.w * self.now.h) }
     {
         self.job.at < self.job.w as u32 * self.job.h as u32
     }
 
-    /// Plots the next two pixels from a word, the low half first, under the mask setting. Where one pixel is left, the
-    /// high half is dropped.
+    /// Plots the next two pixels from `word`, the low half first, under the mask setting. If only one pixel is left,
+    /// the high half is dropped. At least one pixel must be left. Costs at most two steps per pixel.
     pub fn load_word<L: Ledger>(
         &mut self,
         vram: &mut Vram,
@@ -83,8 +83,9 @@ impl Cursor {
         self.load_words(vram, mask, &[word], steps);
     }
 
-    /// Plots the next two pixels from each of the words, one word after another and its low half first, under the mask
-    /// setting. Where one pixel is left for the last word, its high half is dropped. At most two steps a pixel.
+    /// Plots the next two pixels from each of the words, in order and the low half first, under the mask setting. If
+    /// only one pixel is left for the last word, its high half is dropped. There must be no more words than the
+    /// transfer needs. Costs at most two steps per pixel.
     pub fn load_words<L: Ledger>(
         &mut self,
         vram: &mut Vram,
@@ -119,8 +120,8 @@ impl Cursor {
         self.job.at += count;
     }
 
-    /// The next two pixels as a word, the low half first, as video memory is now. Where one pixel is left, the high
-    /// half is 0.
+    /// Returns the next two pixels as a word, the low half first, as they are in video memory now. If only one pixel
+    /// is left, the high half is 0. At least one pixel must be left. Costs one step per pixel.
     pub fn store_word<L: Ledger>(&mut self, vram: &Vram, steps: &mut Steps<L>) -> u32
         requires more { self.old.at < self.old.w * self.old.h }
         ensures word { result ≡ stored_word vram.now self.old }
@@ -146,7 +147,7 @@ impl Cursor {
     }
 }
 
-// How many pixels leave neither the words, nor the row of the rectangle, nor that of video memory.
+// Returns the number of pixels until the words, the row of the rectangle or the row of video memory ends.
 fn run_len(left: u32, in_row: u16, room: u16) -> u16
     ensures { result ≡ min left (min in_row room) }
 {

@@ -1,4 +1,4 @@
-// Rectangles of one colour, sixteen cells at a time.
+// Fills of rectangles, sixteen cells at a time.
 ghost use Rattle.std.specs.Prelude.{◌≡◌, ◌<◌, ◌+◌, ◌*◌, ◌/◌, ◌%◌, length};
 ghost use Rattle.vram_store.specs.Vram.{height_of};
 ghost use Rattle.vram_copy.specs.Costs.{fill_cost};
@@ -9,12 +9,11 @@ use std::simd::prelude::*;
 use std::sync::ledger::Ledger;
 use vram_store::{Steps, Vram};
 
-/// Fills `h` rows of `w` cells from (x, y) on with a halfword, where `x` and `w` are multiples of
-/// 16.
+/// Fills `h` rows of `w` cells from (`x`, `y`) on with the halfword `color`. `x` and `w` must be multiples of 16.
 ///
-/// X wraps at 1024 and Y at the height, with no carry between them. The mask setting does not
-/// matter: cells with bit 15 are written too, and the halfword is written as it is. A width or a
-/// height of 0 fills nothing (psx-spx, GP0(02h)). It takes `w / 16` steps a row.
+/// X wraps at 1024 and Y at the height, with no carry between them. The mask setting is ignored: cells with bit 15
+/// are written too, and the halfword is written as it is. A width or a height of 0 fills nothing (psx-spx, GP0(02h)).
+/// Costs `w / 16` steps per row.
 pub fn fill<L: Ledger>(
     vram: &mut Vram,
     x: u16,

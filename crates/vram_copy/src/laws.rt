@@ -1,24 +1,24 @@
-//! Laws on the costs of copies and fills, and on how a copied row is cut. Each stands in the
-//! contract of a function that does nothing.
+//! Laws on the costs of copies and fills, and on how a copied row is cut. Each is in the contract of a function that
+//! does nothing.
 ghost use Rattle.std.specs.Prelude.{◌≤◌};
 ghost use Rattle.vram_copy.specs.Costs.{copy_cost, fill_cost};
 ghost use Rattle.vram_copy.specs.Laws.{LastCutLaw, ChunksLaw, CopyCostLaw, FillCostLaw};
 
-/// A row of a copy is cut at its first cell and where source or target wraps, and each piece, from
-/// its left, into chunks of sixteen cells and a last one.
+/// A row of a copy is cut at its first cell and at the cells at which source or target is in column 0. Each piece is
+/// cut, from its left, into chunks of sixteen cells and a last, shorter one.
 pub fn rows_are_cut_in_chunks()
     ensures last_cut { LastCutLaw }
     ensures chunks { ChunksLaw }
 {}
 
-/// Copies and fills take at most four steps a cell.
+/// A copy costs at most three steps per cell, and a fill at most four.
 pub fn costs_are_small()
     ensures copies { CopyCostLaw }
     ensures fills { FillCostLaw }
 {}
 
-/// What some copies cost: sixteen cells one column to the right, beyond themselves and one column
-/// to the left, and all of video memory one column to the right. And a fill of sixteen cells.
+/// Upper bounds of some costs. Copies of sixteen cells: one column to the right, sixteen columns to the right, and
+/// one column to the left. A copy of all video memory one column to the right. A fill of sixteen cells.
 pub fn some_costs()
     ensures one_right { copy_cost 512 (record { x = 0; y = 0 }) (record { x = 1; y = 0 }) 16 1 ≤ 48 }
     ensures apart { copy_cost 512 (record { x = 0; y = 0 }) (record { x = 16; y = 0 }) 16 1 ≤ 3 }

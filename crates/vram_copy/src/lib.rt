@@ -1,10 +1,10 @@
-//! Rectangles of video memory that are filled, copied, loaded and stored.
+//! Fills, copies, loads and stores of rectangles of video memory.
 //!
-//! Pixels go from left to right in each row, and rows from the top. A rectangle that leaves video
-//! memory goes on at the other side: X wraps at 1024 and Y at the height, with no carry between
-//! them (psx-spx, "GPU Memory Transfer Commands"). The contracts count the store steps, the
-//! accesses to video memory. Fills and copies move sixteen cells at a time, and a copy keeps the
-//! order of its pixels where that can be seen.
+//! Pixels are processed from left to right in each row, and rows from the top. A rectangle that passes the edge of
+//! video memory continues at the other side: X wraps at 1024 and Y at the height, with no carry between them
+//! (psx-spx, "GPU Memory Transfer Commands"). The contracts count the store steps, which are accesses to video
+//! memory. Fills and copies process sixteen cells at a time. A copy keeps the order of its pixels if the result
+//! depends on it.
 #![tactic(auto)]
 
 mod cells;

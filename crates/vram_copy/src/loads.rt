@@ -1,4 +1,4 @@
-// Pixels of several words, sixteen at a time.
+// Pixels of several words, plotted sixteen at a time.
 ghost use Rattle.std.specs.Prelude.{◌≡◌, ◌≤◌, ◌<◌, ◌+◌, ◌*◌, ◌%◌, length, slice_index};
 ghost use Rattle.px_num.specs.Lanes.{EachLane};
 ghost use Rattle.vram_store.specs.Vram.{height_of};
@@ -13,18 +13,19 @@ use std::sync::ledger::Ledger;
 use vram_store::mask::{force_lanes, forces, tests};
 use vram_store::{Steps, Vram};
 
-/// Cells of a row that pixels of words come to.
+/// Consecutive cells of a row, and the pixels of words that are plotted there.
 #[derive(Clone, Copy)]
 pub struct Stretch {
     /// The first cell.
     pub to: Cell,
-    /// The number of its pixel.
+    /// The index of its pixel in the words, two pixels per word.
     pub first: usize,
-    /// How many cells.
+    /// The number of cells.
     pub n: u16,
 }
 
-/// Plots pixels of words in cells of a row, at most two steps each. The mask setting is asked once.
+/// Plots the pixels of `words` in the cells of `stretch`, which are in one row. Costs at most two steps per cell. The
+/// mask setting is tested once for all cells.
 pub fn load_run<L: Ledger>(
     vram: &mut Vram,
     mask: u8,
@@ -47,7 +48,7 @@ pub fn load_run<L: Ledger>(
     }
 }
 
-// The same, compiled for each setting.
+// As `load_run`, compiled separately for each constant mask setting.
 #[inline(always)]
 fn load_each<L: Ledger>(
     vram: &mut Vram,
@@ -79,7 +80,7 @@ fn load_each<L: Ledger>(
     }
 }
 
-// Sixteen pixels of words together, the first of them the low half of its word.
+// Plots sixteen pixels of words with one store. The first must be the low half of its word.
 #[inline(always)]
 fn load_sixteen<L: Ledger>(
     vram: &mut Vram,
@@ -101,7 +102,7 @@ fn load_sixteen<L: Ledger>(
     vram.store16(to.x, to.y, 16, lanes, open, steps);
 }
 
-// A pixel of words.
+// Returns pixel `i` of the words.
 fn pixel_at(words: &[u32], i: usize) -> u16
     requires { i < 2 * length words.now }
     ensures { result ≡ pixel_of words.now i }
@@ -110,7 +111,7 @@ fn pixel_at(words: &[u32], i: usize) -> u16
     (words[i / 2] >> shift & 0xffff) as u16
 }
 
-// The sixteen pixels of eight words.
+// Returns the sixteen pixels of eight words. `first` must be even.
 #[inline(always)]
 fn pixels_at(words: &[u32], first: usize) -> u16x16
     requires whole { first % 2 ≡ 0 }

@@ -1,4 +1,4 @@
-// Where the pixels of a rectangle lie.
+// Positions of the pixels of a rectangle.
 ghost use Rattle.std.specs.Prelude.{ℕ, ◌≡◌, ◌≤◌, ◌<◌, ◌+◌, ◌*◌};
 ghost use Rattle.vram_copy.specs.Places.{IsPlace};
 ghost use Rattle.vram_copy.specs.Words.{pixel_cell};
@@ -6,7 +6,7 @@ ghost use Rattle.vram_copy.specs.Words.{pixel_cell};
 use crate::transfer::Transfer;
 use px_num::{Cell, wrap_at, wrap_x};
 
-/// Where a pixel lies in its rectangle.
+/// The position of a pixel within its rectangle.
 #[derive(Clone, Copy)]
 pub struct Place {
     /// Its column.
@@ -15,7 +15,7 @@ pub struct Place {
     pub row: u16,
 }
 
-/// The cell at a place.
+/// Returns the cell of video memory at `place` of the rectangle. X wraps at 1024 and Y at `height`.
 pub fn cell_at(job: &Transfer, place: Place, height: u16) -> Cell
     requires rows { 1 ≤ height }
     ensures value { (i : ℕ) → IsPlace job.now.w place i → result ≡ pixel_cell height job.now i }
@@ -28,7 +28,8 @@ pub fn cell_at(job: &Transfer, place: Place, height: u16) -> Cell
     }
 }
 
-/// The place n pixels on in its row, or at the start of the next one.
+/// Returns the position of the pixel `n` after `place`, in its row or at the start of the next. `n` is at least 1.
+/// The `n` pixels from `place` on must be in one row of the rectangle.
 pub fn place_behind(job: &Transfer, place: Place, n: u16) -> Place
     requires column { place.column + n ≤ job.now.w }
     requires more { place.row * job.now.w + place.column + n ≤ job.now.w * job.now.h }

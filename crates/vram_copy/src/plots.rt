@@ -10,7 +10,7 @@ use std::sync::ledger::Ledger;
 use vram_store::mask::{force, keeps, open_bits, tests};
 use vram_store::{Steps, Vram};
 
-/// Plots a halfword at a cell. At most two steps.
+/// Plots `color` at cell `to` under the mask setting. Costs at most two steps.
 #[tactic(auto, unfolding(vram_store::specs::Plot::plot))]
 pub fn plot_pixel<L: Ledger>(vram: &mut Vram, mask: u8, to: Cell, color: u16, steps: &mut Steps<L>)
     requires in_row { to.x < 1024 }
@@ -26,7 +26,7 @@ pub fn plot_pixel<L: Ledger>(vram: &mut Vram, mask: u8, to: Cell, color: u16, st
     }
 }
 
-// The same by a look at the cell.
+// As `plot_pixel`, for a setting that tests the cell.
 #[tactic(auto, unfolding(vram_store::specs::Plot::plot))]
 fn plot_tested<L: Ledger>(vram: &mut Vram, mask: u8, to: Cell, color: u16, steps: &mut Steps<L>)
     requires in_row { to.x < 1024 }
@@ -41,7 +41,7 @@ fn plot_tested<L: Ledger>(vram: &mut Vram, mask: u8, to: Cell, color: u16, steps
     }
 }
 
-/// Copies one cell. At most three steps.
+/// Copies one cell under the mask setting. Costs at most three steps.
 pub fn copy_cell<L: Ledger>(vram: &mut Vram, mask: u8, from: Cell, to: Cell, steps: &mut Steps<L>)
     requires source_in { (from.x < 1024) × (from.y < height_of vram.old) }
     requires target_in { (to.x < 1024) × (to.y < height_of vram.old) }
@@ -53,7 +53,8 @@ pub fn copy_cell<L: Ledger>(vram: &mut Vram, mask: u8, from: Cell, to: Cell, ste
     plot_pixel(vram, mask, to, color, steps);
 }
 
-/// A bit for each of n cells of a row, 0 where the cell stays as it is and 1 where a plot writes it.
+/// Returns one bit for each of the `n` cells of a row from `to` on: 0 if the setting protects the cell, 1 if a plot
+/// writes it. Costs at most one step.
 #[inline(always)]
 pub fn open_cells<L: Ledger>(vram: &Vram, mask: u8, to: Cell, n: u8, steps: &mut Steps<L>) -> u16
     requires count { (1 ≤ n) × (n ≤ 16) }

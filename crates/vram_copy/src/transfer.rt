@@ -1,4 +1,4 @@
-// Loads and stores, a word of up to two pixels at a time.
+// Loads and stores by words of up to two pixels.
 ghost use Rattle.std.specs.Prelude.{◌≡◌, ◌≤◌, ◌<◌, ◌+◌, ◌*◌, length};
 ghost use Rattle.vram_copy.specs.Words.{advanced, advanced_by, pixels_in, pixels_next, words_left};
 ghost use Rattle.vram_copy.specs.Words.{loaded_word, loaded_words, stored_word};
@@ -7,7 +7,7 @@ use crate::cursor::Cursor;
 use std::sync::ledger::Ledger;
 use vram_store::{Steps, Vram};
 
-/// A rectangle that is loaded or stored word by word, and how far that is.
+/// A rectangle that is loaded or stored word by word, with the number of pixels done.
 ///
 /// Its pixels are numbered from 0, row by row and from left to right.
 #[derive(Clone, Copy, Debug, PartialEq, Eq)]
@@ -16,19 +16,18 @@ pub struct Transfer {
     pub x: u16,
     /// The row of its first pixel.
     pub y: u16,
-    /// How many pixels a row has.
+    /// The number of pixels of a row.
     pub w: u16,
-    /// How many rows it has.
+    /// The number of rows.
     pub h: u16,
-    /// The number of the next pixel, `w * h` where none is left.
+    /// The number of the next pixel, `w * h` if none is left.
     pub at: u32,
 }
 
-/// Plots the next two pixels of a rectangle from a word, the low half first, under the mask
-/// setting.
+/// Plots the next two pixels of the rectangle from `word`, the low half first, under the mask setting.
 ///
-/// Where one pixel is left, the high half is dropped. X wraps at 1024 and Y at the height. The
-/// transfer goes on by the pixels plotted, at most two steps each (psx-spx, GP0(A0h)).
+/// If only one pixel is left, the high half is dropped. At least one pixel must be left. X wraps at 1024 and Y at the
+/// height. `job` advances by the pixels plotted. Costs at most two steps per pixel (psx-spx, GP0(A0h)).
 pub fn load_word<L: Ledger>(
     vram: &mut Vram,
     mask: u8,
@@ -45,12 +44,12 @@ pub fn load_word<L: Ledger>(
     load_words(vram, mask, job, &[word], steps);
 }
 
-/// Plots the next two pixels of a rectangle from each of the words, one word after another and its
-/// low half first, under the mask setting.
+/// Plots the next two pixels of the rectangle from each of the words, in order and the low half first, under the mask
+/// setting.
 ///
-/// Where one pixel is left for the last word, its high half is dropped. X wraps at 1024 and Y at
-/// the height. The transfer goes on by the pixels plotted, at most two steps each (psx-spx,
-/// GP0(A0h)).
+/// If only one pixel is left for the last word, its high half is dropped. There must be no more words than the
+/// transfer needs. X wraps at 1024 and Y at the height. `job` advances by the pixels plotted. Costs at most two steps
+/// per pixel (psx-spx, GP0(A0h)).
 pub fn load_words<L: Ledger>(
     vram: &mut Vram,
     mask: u8,
@@ -71,10 +70,10 @@ pub fn load_words<L: Ledger>(
     }
 }
 
-/// The next two pixels of a rectangle as a word, the low half first, as video memory is now.
+/// Returns the next two pixels of the rectangle as a word, the low half first, as they are in video memory now.
 ///
-/// Where one pixel is left, the high half is 0 (our own rule). X wraps at 1024 and Y at the height.
-/// The transfer goes on by the pixels given, one step each (psx-spx, GP0(C0h)).
+/// If only one pixel is left, the high half is 0 (our own rule). At least one pixel must be left. X wraps at 1024 and
+/// Y at the height. `job` advances by the pixels returned. Costs one step per pixel (psx-spx, GP0(C0h)).
 pub fn store_word<L: Ledger>(vram: &Vram, job: &mut Transfer, steps: &mut Steps<L>) -> u32
     requires more { job.old.at < job.old.w * job.old.h }
     ensures word { result ≡ stored_word vram.now job.old }

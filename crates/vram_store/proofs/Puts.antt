@@ -1,4 +1,4 @@
--- Cells that are put, of which some are as they were.
+-- Writes of cells of which some keep their values.
 use Rattle.std.proofs.Common.{◌≡◌, ◌<◌, ◌≤◌, inl, inr, ℕ, List, ◌+◌, ◌-◌, cond, ltb, eqb, length, get_or, arith, refl}
 use Rattle.std.proofs.Common.{◌∙◌, ◌++◌, ap, zero-add}
 use lib.Lanes.{pick_l, chunk}

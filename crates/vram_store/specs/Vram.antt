@@ -4,31 +4,31 @@ use Rattle.std.specs.Prelude.{slice_set}
 use Rattle.px_num.specs.Height.{short_height, tall_height}
 use Rattle.px_num.specs.Zeros.{zeros}
 
--- how many rows of 1024 cells there are
+-- the number of rows of 1024 cells
 abbrev pub height_of : List ℕ → ℕ
 height_of m = length m / 1024
 
--- the cell at a column and a row
+-- the cell at column x and row y
 abbrev pub at : List ℕ → ℕ → ℕ → ℕ
 at m x y = slice_index m (1024 * y + x)
 
--- the cells with one of them changed
+-- the cells after h is written to column x and row y
 abbrev pub set : List ℕ → ℕ → ℕ → ℕ → List ℕ
 set m x y h = slice_set m (1024 * y + x) h
 
--- the first video memory (our own rule: it starts as zeros)
+-- video memory at the start (our own rule: every cell is 0)
 unfoldable pub blank : List ℕ
 blank = zeros (1024 * short_height)
 
--- the cells of so many rows behind those that are there; no proof computes them
+-- the cells of 0 that extend m to this number of rows; no proof computes them
 abbrev pub rows_behind : (height : ℕ) → List ℕ → List ℕ
 rows_behind height m = zeros (1024 * height - length m)
 
--- the tall profile (our own rule): rows of zeros stand behind those of the console, and no cell changes
+-- the tall profile (our own rule): rows of 0 follow those of the console, and no cell changes
 unfoldable pub tall : List ℕ → List ℕ
 tall m = m ++ rows_behind tall_height m
 
--- sixteen lanes: n cells from number start on, and then 0
+-- sixteen lanes: the n cells from index start on, then 0
 pub record IsLoaded (m : List ℕ) (start n : ℕ) (lanes : List ℕ) : Type 0 where
   pub count : length lanes ≡ 16
   pub in_cells : start + n ≤ length m
@@ -39,13 +39,13 @@ pub record IsLoaded (m : List ℕ) (start n : ℕ) (lanes : List ℕ) : Type 0 w
 abbrev pub bit : ℕ → ℕ → ℕ
 bit number j = number / 2 ^ j % 2
 
--- the first n of some lanes, each with a bit that is 1 where it is to be written
+-- lanes to be written: the first n of them whose bit is 1
 pub record Lanes : Type 0 where
   pub n : ℕ
   pub lanes : List ℕ
   pub bits : ℕ
 
--- of the cells from number start on those have become their lanes whose bit is 1, and all others stayed
+-- each of the n cells from index start on has its lane's value if the lane's bit is 1; all other cells are unchanged
 pub record IsStored (old : List ℕ) (start : ℕ) (of : Lanes) (new : List ℕ) : Type 0 where
   pub count : length new ≡ length old
   pub in_cells : start + of.n ≤ length old
@@ -53,7 +53,7 @@ pub record IsStored (old : List ℕ) (start : ℕ) (of : Lanes) (new : List ℕ)
   pub masked : (j : ℕ) → j < of.n → bit of.bits j ≢ 1 → slice_index new (start + j) ≡ slice_index old (start + j)
   pub others : (k : ℕ) → (k < start) ⊎ (start + of.n ≤ k) → slice_index new k ≡ slice_index old k
 
--- the n cells from number start on have become the first lanes, and all others stayed
+-- the n cells from index start on have the values of the first lanes; all other cells are unchanged
 pub record IsPut (old : List ℕ) (start n : ℕ) (lanes new : List ℕ) : Type 0 where
   pub count : length new ≡ length old
   pub written : (j : ℕ) → j < n → slice_index new (start + j) ≡ slice_index lanes j

@@ -1,4 +1,4 @@
-// The first lanes alone are loaded or stored.
+// Loads and stores of up to sixteen cells.
 ghost use Rattle.std.specs.Prelude.{◌≡◌, ◌≤◌, ◌+◌, length};
 ghost use Rattle.vram_store.specs.Vram.{IsLoaded, IsStored};
 
@@ -6,7 +6,8 @@ use crate::whole::{load_whole, masked_lanes, store_half, store_whole};
 use px_num::halves::{HALF, first_lanes};
 use std::simd::prelude::*;
 
-// Puts sixteen cells, of which those change that are among the first n and whose bit of the mask is 1.
+// Writes each of the first `n` lanes whose bit of `mask` is 1 to the cells from index `start` on. Other cells keep
+// their values. 16 cells from `start` on must exist, even if `n` is less.
 #[inline(always)]
 pub(crate) fn store_first(cells: &mut [u16], start: usize, n: u8, lanes: u16x16, mask: u16)
     requires few { n ≤ 16 }
@@ -27,7 +28,7 @@ pub(crate) fn store_first(cells: &mut [u16], start: usize, n: u8, lanes: u16x16,
     }
 }
 
-// These cells in the first lanes, and 0 in the others.
+// Returns `cells`, at most 16, in the first lanes, and 0 in the others.
 pub(crate) fn load_lanes(cells: &[u16]) -> [u16; 16]
     requires { length cells.now ≤ 16 }
     ensures { IsLoaded cells.now 0 (length cells.now) result }
@@ -37,7 +38,8 @@ pub(crate) fn load_lanes(cells: &[u16]) -> [u16; 16]
     lanes
 }
 
-// Puts the first n lanes whose bit of the mask is 1.
+// Writes each of the first `n` lanes whose bit of `mask` is 1 to the cells from index `start` on. Only `n` cells need
+// to exist.
 pub(crate) fn store_lanes(cells: &mut [u16], start: usize, n: usize, lanes: &[u16; 16], mask: u16)
     requires lanes { n ≤ 16 }
     requires in_cells { start + n ≤ length cells.old }

@@ -1,4 +1,4 @@
-// Cells here and there, at once.
+// Reads of cells at up to sixteen arbitrary positions.
 ghost use Rattle.std.specs.Prelude.{◌≡◌, ◌≤◌, ◌<◌, ◌+◌, ◌*◌, ◌^◌, ℕ, length, slice_index};
 ghost use Rattle.px_num.specs.Lanes.{EachLane};
 ghost use Rattle.vram_store.specs.Vram.{at, height_of};
@@ -8,7 +8,7 @@ use crate::vram::Vram;
 use std::simd::prelude::*;
 use std::sync::ledger::Ledger;
 
-// The same numbers in lanes of 32 bits.
+// Returns the same lane values, widened to 32 bits.
 #[inline(always)]
 fn widened(a: u16x16) -> u32x16
     requires { length a ≡ 16 }
@@ -18,7 +18,7 @@ fn widened(a: u16x16) -> u32x16
     a.cast::<u32>()
 }
 
-// The products, which fit.
+// Returns the product of each lane, which must fit in 32 bits.
 #[inline(always)]
 fn product(a: u32x16, b: u32x16) -> u32x16
     requires { EachLane (λ i. slice_index a i * slice_index b i < 2 ^ 32) }
@@ -28,7 +28,7 @@ fn product(a: u32x16, b: u32x16) -> u32x16
     a.strict_mul(b)
 }
 
-// The sums, which fit.
+// Returns the sum of each lane, which must fit in 32 bits.
 #[inline(always)]
 fn sum(a: u32x16, b: u32x16) -> u32x16
     requires { EachLane (λ i. slice_index a i + slice_index b i < 2 ^ 32) }
@@ -38,7 +38,7 @@ fn sum(a: u32x16, b: u32x16) -> u32x16
     a.strict_add(b)
 }
 
-// The length of a row in each lane.
+// Returns the row length, 1024 cells, in each lane.
 #[inline(always)]
 fn row_lengths() -> u32x16
     ensures long { length result ≡ 16 }
@@ -47,7 +47,7 @@ fn row_lengths() -> u32x16
     u32x16::splat(1024)
 }
 
-// Where cells of these columns and rows stand among all.
+// Returns the index `1024 * y + x` of each lane's cell.
 #[inline(always)]
 fn numbers_of(xs: u16x16, ys: u16x16) -> u32x16
     requires long { (length xs ≡ 16) × (length ys ≡ 16) }
@@ -57,7 +57,8 @@ fn numbers_of(xs: u16x16, ys: u16x16) -> u32x16
     sum(product(row_lengths(), widened(ys)), widened(xs))
 }
 
-// The first n of these cells. Where n is a constant, the compiler writes them one after another.
+// Returns the cells at the first `n` indexes; the other lanes are 0. If `n` is a constant, the compiler unrolls the
+// loop.
 #[inline(always)]
 fn cells_at(cells: &[u16], numbers: u32x16, n: u8) -> u16x16
     requires few { n ≤ 16 }
@@ -74,7 +75,7 @@ fn cells_at(cells: &[u16], numbers: u32x16, n: u8) -> u16x16
     u16x16::from_array(lanes)
 }
 
-// The cells of a row.
+// Returns the 1024 cells of row `y`.
 #[inline(always)]
 fn row_of(cells: &[u16], y: u16) -> &[u16]
     requires { 1024 * y + 1024 ≤ length cells.now }
@@ -86,11 +87,11 @@ fn row_of(cells: &[u16], y: u16) -> &[u16]
 }
 
 impl Vram {
-    /// The first `n` lanes are the cells at these columns and rows, and the others mean nothing. A step for each of the
-    /// first `n`.
+    /// Returns the cells at columns `xs` and rows `ys` in the first `n` lanes. The other lanes have no specified
+    /// value. Costs `n` steps.
     ///
-    /// So many cells are `read`, at least `n`, and all lanes have to be cells: where the number is a constant, that is
-    /// faster than a loop over few.
+    /// Reads `read` cells, from `n` to 16. All sixteen lanes must be cells of video memory. A constant `read` is
+    /// faster than a loop over `n` cells.
     #[inline(always)]
     pub fn gather<L: Ledger>(
         &self,
@@ -112,7 +113,8 @@ impl Vram {
         cells_at(&self.cells, numbers_of(xs, ys), read)
     }
 
-    /// The same of cells that stand in one row. No number is reckoned but that of the row.
+    /// As [`gather`](Vram::gather), for cells of one row `y`. Only the row's start is computed, not the index of each
+    /// cell.
     #[inline(always)]
     pub fn gather_in_row<L: Ledger>(
         &self,

@@ -1,4 +1,4 @@
-// The cells, and four of the six accesses that count.
+// The cells of video memory, and four of the six counted accesses.
 ghost use Rattle.std.specs.Prelude.{◌≡◌, ◌≤◌, ◌<◌, ◌+◌, ◌*◌, ◌++◌, ◌-◌, ℕ, List, length, vec_len, vec_capacity, IfOk};
 ghost use Rattle.px_num.specs.Height.{IsHeight, tall_height};
 ghost use Rattle.px_num.specs.Zeros.{zeros};
@@ -15,13 +15,13 @@ use std::marker::Model;
 use std::simd::prelude::*;
 use std::sync::ledger::Ledger;
 
-/// How many cells the console's video memory has: 512 rows of 1024.
+/// The number of cells of the console's video memory: 512 rows of 1024.
 const SHORT_CELLS: usize = 524_288;
 
-/// How many cells it has in the tall profile: 1024 rows of 1024.
+/// The number of cells in the tall profile: 1024 rows of 1024.
 const TALL_CELLS: usize = 1_048_576;
 
-/// Video memory. Contracts see it as the list of its halfwords, row by row.
+/// Video memory of 512 or 1024 rows. In contracts it is the list of its halfwords, row by row.
 #[derive(Drop)]
 pub struct Vram {
     pub(crate) cells: Vec<u16>,
@@ -38,7 +38,8 @@ impl Model for Vram {
     ghost invariant = { λ v. KeepsRoom (vec_len v.cells) (vec_capacity v.cells) };
 }
 
-// Cells of zeros with room for more. Both numbers are variables here, so that no proof computes the list.
+// Returns `n` cells of 0 with capacity for `room` cells. Both are parameters, not constants, so that no proof
+// computes the list.
 #[tactic(auto, unfolding(px_num::specs::Zeros::zeros))]
 fn zeroed(alloc: Global, n: usize, room: usize) -> Result<Vec<u16>, AllocError>
     requires { n ≤ room }
@@ -51,7 +52,7 @@ fn zeroed(alloc: Global, n: usize, room: usize) -> Result<Vec<u16>, AllocError>
     Ok(cells)
 }
 
-// Appends zeros up to a length for which there is room.
+// Appends zeros until there are `n` cells. Requires capacity for `n` cells.
 fn lengthen(cells: &mut Vec<u16>, n: usize)
     requires shorter { vec_len cells.old ≤ n }
     requires room { n ≤ vec_capacity cells.old }
@@ -69,8 +70,8 @@ fn lengthen(cells: &mut Vec<u16>, n: usize)
 }
 
 impl Vram {
-    /// Video memory of 512 rows, where every cell is 0. The memory for 1024 rows is had here, so that no later call
-    /// needs any. Refused where memory runs out.
+    /// Returns video memory of 512 rows, with every cell 0. Allocates memory for 1024 rows, so that no later call
+    /// allocates. Returns `OutOfMemory` if the allocation fails.
     #[tactic(auto, unfolding(crate::specs::Vram::blank))]
     pub fn new(alloc: Global) -> Result<Self, OutOfMemory>
         ensures cells { IfOk result (λ vram. vram ≡ blank) }
@@ -82,8 +83,8 @@ impl Vram {
         }
     }
 
-    /// Makes the height 1024 rows: rows 512 to 1023 are zeros, and all other cells stay. Where it is 1024 already,
-    /// nothing changes. No step is taken.
+    /// Extends video memory to 1024 rows. Rows 512 to 1023 are 0; other cells keep their values. Does nothing if the
+    /// height is already 1024. Costs no step.
     #[tactic(auto, unfolding(crate::specs::Vram::tall))]
     pub fn set_tall(&mut self)
         ensures cells { self.new ≡ tall self.old }
@@ -92,7 +93,7 @@ impl Vram {
         lengthen(&mut self.cells, TALL_CELLS);
     }
 
-    /// How many rows of 1024 cells there are: 512 or 1024.
+    /// Returns the number of rows of 1024 cells: 512 or 1024.
     pub fn height(&self) -> u16
         ensures rows { result ≡ height_of self.now }
         ensures cells { length self.now ≡ 1024 * result }
@@ -101,7 +102,7 @@ impl Vram {
         (self.cells.len() / 1024) as u16
     }
 
-    /// A cell. One step.
+    /// Returns cell (`x`, `y`). Requires a column below 1024 and a row below the height. Costs one step.
     pub fn get<L: Ledger>(&self, x: u16, y: u16, steps: &mut Steps<L>) -> u16
         requires in_row { x < 1024 }
         requires in_height { y < height_of self.now }
@@ -112,7 +113,7 @@ impl Vram {
         self.cells[1024 * y as usize + x as usize]
     }
 
-    /// Writes a cell. One step.
+    /// Writes `h` to cell (`x`, `y`). Requires a column below 1024 and a row below the height. Costs one step.
     pub fn put<L: Ledger>(&mut self, x: u16, y: u16, h: u16, steps: &mut Steps<L>)
         requires in_row { x < 1024 }
         requires in_height { y < height_of self.old }
@@ -124,7 +125,8 @@ impl Vram {
         self.cells[1024 * y as usize + x as usize] = h;
     }
 
-    /// The first `n` lanes are the cells of row `y` from column `x` on, and the others 0. One step.
+    /// Returns the `n` cells of row `y` from column `x` on in the first lanes, and 0 in the others. `n` is 1 to 16,
+    /// and the cells must not pass the end of the row. Costs one step.
     pub fn load16<L: Ledger>(&self, x: u16, y: u16, n: u8, steps: &mut Steps<L>) -> u16x16
         requires some { 1 ≤ n }
         requires lanes { n ≤ 16 }
@@ -142,8 +144,8 @@ impl Vram {
         }
     }
 
-    /// Writes those of the first `n` lanes whose bit of the mask is 1 to row `y` from column `x` on. All
-    /// other cells stay. One step.
+    /// Writes each of the first `n` lanes whose bit of `mask` is 1 to row `y` from column `x` on. Other cells keep
+    /// their values. `n` is 1 to 16, and the cells must not pass the end of the row. Costs one step.
     pub fn store16<L: Ledger>(
         &mut self,
         x: u16,

@@ -19,7 +19,7 @@ use Rattle.prim_draw.specs.Settings.{brush_in, placed, texture_in}
 use Rattle.prim_draw.specs.Triangles.{triangle_box, triangle_state, triangle_paint}
 use Rattle.prim_draw.proofs.laws.some_costs.Goals as goal
 
--- what such a rectangle of one row is drawn with
+-- the pattern of such a rectangle of one row
 abbrev raw_pattern : (e1 x w : ℕ) → Pattern
 raw_pattern e1 x w =
     let r = open_registers e1 in

@@ -5,7 +5,7 @@ use Rattle.vram_store.specs.Plot.{draw_at, put_at, written_over}
 use Rattle.vram_store.specs.Vram.{at}
 use Rattle.prim_draw.proofs.point.plot_seen.Goals as goal
 
--- what is written over a cell as it is, put there, is the pixel plotted
+-- putting what is written over a cell plots the pixel
 put-written : (m : List ℕ) (mask x y back color : ℕ) (written pixel : Option ℕ) → back ≡ at m x y → Some color ≡ pixel
     → written ≡ written_over mask back (Some color)
     → put_at (1024 * y + x) written m ≡ draw_at mask (1024 * y + x) pixel m

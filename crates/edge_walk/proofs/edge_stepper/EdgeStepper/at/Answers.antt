@@ -23,7 +23,7 @@ raised-far-requires-clause-value c =
     let is : c.product-value.result ≡ start_value p q c.args.y = rw (across, down) at value in
     simp to_z-of_z (rw is (value_small p q c.args.y c.requires.near c.requires.reach))
 
--- the column at which the edge stands
+-- the edge's column
 held : (c : After-in_parts)
     → IsPlaced c.in_parts.result c.raised-far.result
     (in_parts c.args.p.now.x +ℤ

@@ -12,11 +12,11 @@ use Rattle.prim_draw.proofs.WalkLemmas.{IsBoxOf, at_row, box_is, row_none, row_s
 use Rattle.prim_draw.proofs.RowLemmas.{IsFound, filtered, first_in, found, last_in, none_found}
 use Rattle.prim_draw.proofs.triangle_rows.TriangleRowsRows.run_at.Goals as goal
 
--- the row at which the walk stands
+-- the row of the scan
 is_row : (c : goal.In-Some) → IsRowOf c.args.self.now.tri.now c.args.self.now.clip.now c.args._y c.args.self.now.walk
 is_row c = at_row c.args.self.now c.args._y c.requires.stands c.requires.within
 
--- the block of the box
+-- the box as a clip rectangle
 clip_rect : (c : goal.In-Some) → ClipRect
 clip_rect c = clip_rect_of c.args.self.now.clip.now
 
@@ -37,7 +37,7 @@ last_is : (c : goal.In-Some) → (pos (clip_rect c).x ≤ℤ c.in-Some.last)
     × (c.in-Some.last ≤ℤ pos ((clip_rect c).x + (clip_rect c).w - 1))
 last_is c = last_in c.args.self.now.tri.now (clip_rect c) c.args._y _ _ (box c).some (span c)
 
--- the ends of a row fit, whatever is computed of them
+-- the ends of a row fit in 32 bits, and so do the values computed from them
 record Fit (first last : ℤ) : Type 0 where
   one : SFits w32 first
   two : SFits w32 last
