@@ -1,11 +1,11 @@
--- The two counts of store steps beside each other.
+-- The two bounds of store steps compared.
 use Rattle.std.specs.Prelude.{◌≤◌, List, ℕ}
 use Rattle.gpu_capture.specs.declared.event.Event.{Event}
 use Rattle.gpu_capture.specs.declared.event.Stop.{Stop}
 use Rattle.event_play.specs.Replay.{Tale, played_events}
 
--- Whatever events are played, they take no more store steps than four for each cell of the boxes of what they draw, if
--- that was so before.
+-- Whatever events are played, their cost is at most their box cost, four store steps for each cell of the boxes of what
+-- they draw, if that was so before.
 abbrev pub CostsAreSmall : Type 0
 CostsAreSmall = (first : Tale) (events : List Event) (stop : Stop) (rest : List ℕ) → first.cost ≤ first.box_cost
     → (played_events first events stop rest).tale.cost ≤ (played_events first events stop rest).tale.box_cost
