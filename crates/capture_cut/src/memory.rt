@@ -97,7 +97,7 @@ fn put_lanes(lanes: &[u16; 16], words: &mut [u32])
     }
 }
 
-// Returns 512 words of main memory. `first`: index of the first word.
+// Returns 512 words of main memory. `first`: index of the first word. All must exist.
 fn ram_words(ram: &Ram, first: u32) -> [u32; 512]
     requires { first + 512 ≤ memory_words }
     ensures words { result ≡ take 512 (drop first ram.now) }

@@ -25,8 +25,8 @@ const LIMIT: u32 = 1 << 30;
 /// Reads the events after the first `read`, and writes their records and an End record. `size`: length of the file so
 /// far in bytes, at most 2^30 - 4. The reader must not have stopped.
 ///
-/// Records are buffered, up to 4,096 bytes. The buffer is flushed if the next record does not fit, before a read that
-/// may have to wait, after 4,096 bytes of input, and before every ending.
+/// Records are buffered, up to 4,096 bytes. The buffer is flushed if a record does not fit, before a read that may
+/// wait, after 4,096 bytes of input, and before every ending.
 pub(crate) fn write_rest<S: Source, K: Sink>(
     reader: &mut EventReader,
     source: &mut S,

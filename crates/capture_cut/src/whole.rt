@@ -23,8 +23,8 @@ use vram_store::Steps;
 /// played. Allocates no memory.
 ///
 /// The header and the state are the output of event `n`; each later record is the output of its event. Records are
-/// buffered, up to 4,096 bytes. The buffer is flushed if the next record does not fit, before a read that may have to
-/// wait, after 4,096 bytes of input, and before every ending.
+/// buffered, up to 4,096 bytes. The buffer is flushed if a record does not fit, before a read that may wait, after
+/// 4,096 bytes of input, and before every ending.
 ///
 /// A write may fail while a later event is processed. The error still names the event of the first incomplete record.
 /// By then, at most 4,112 bytes after that event were read. Before any other ending, all earlier output was written,

@@ -127,7 +127,7 @@ pub record GoesOn (start : Tale) (version : ℕ) (before now : Streams) (rig : R
   pub same : version ≡ progress.version
   pub known : 1 ≤ progress.version
 
--- What else a loop pass keeps: the reader has not stopped and its remaining steps do not grow, an End record fits, the
+-- What else a loop pass keeps. The reader has not stopped, and its remaining steps do not grow. An End record fits. The
 -- version is the same, and the counts of faults do not fall.
 pub record Keeps (version work : ℕ) (read_before read_now write_before write_now : ℕ) (reader : ReaderState)
     (draft : Draft) : Type 0 where

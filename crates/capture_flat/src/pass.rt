@@ -29,7 +29,7 @@ use vram_store::Steps;
 
 /// Plays one event and adds its output to the file. Returns the ending if the event has a fault, if the file would be
 /// too long, or if a write failed. In the first two cases, nothing is added or written; an event with a fault is not
-/// played.
+/// played. `draft.file` must have a version of at most 3 and at most 2^30 bytes.
 ///
 /// There are six parameters because playing changes the rig, the taps and the steps, and writing the file and the sink.
 pub(crate) fn pass_event<K: Sink, T: Listener, L: Ledger>(
@@ -121,7 +121,7 @@ fn put_due<K: Sink>(
     }
 }
 
-// Returns the file header that is written for an input version: at least that of version 2.
+// Returns the file header of the output: version 3 for input version 3, version 2 for a lower one.
 fn head(version: u8) -> [u8; 8]
     requires { version ≤ 3 }
     ensures { result ≡ head_of (flat_version version) }

@@ -14,7 +14,7 @@ use gathered_out::Gathered;
 use gpu_capture::{Stop, write_end, write_start};
 
 /// Flushes the buffer and returns `ending`. If the flush fails, returns `WriteFailed`. If `ending` is `WriteFailed`,
-/// writes nothing.
+/// writes nothing. `ending` must not be a fault of the source.
 pub(crate) fn end_behind<K: Sink>(
     ending: FlatEnding,
     gathered: &mut Gathered,
@@ -35,7 +35,8 @@ pub(crate) fn end_behind<K: Sink>(
     }
 }
 
-/// Flushes the buffer, then ends at a stop of the reader after `played` events.
+/// Flushes the buffer, then ends at a stop of the reader after `played` events. The version of the file must be at most
+/// 3.
 pub(crate) fn end_reading<K: Sink>(
     stop: Stop,
     draft: &mut Draft,

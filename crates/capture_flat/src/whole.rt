@@ -28,8 +28,8 @@ const TALL_VERSION: u8 = 3;
 /// record that are at hand are played as one block, as long as their records fit. Allocates no memory.
 ///
 /// The file header is the output of the first event, or of End if there is no event. Records are buffered, up to 4,096
-/// bytes. The buffer is flushed if the next record does not fit, before a read that may have to wait, after 4,096 bytes
-/// of input, and before every ending.
+/// bytes. The buffer is flushed if a record does not fit, before a read that may wait, after 4,096 bytes of input, and
+/// before every ending.
 ///
 /// A write may fail while a later event is processed. The error still names the first event whose output is incomplete.
 /// By then, at most 4,112 bytes after that event were read. Before any other ending, all earlier output was written.

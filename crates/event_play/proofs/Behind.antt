@@ -12,8 +12,7 @@ use Rattle.event_play.specs.Pausing.{most_behind}
 abbrev pub IsReading : Progress → List ℕ → List Event → Type 0
 IsReading p taken events = (IsStart p × (taken ≡ []) × (events ≡ [])) ⊎ (1 ≤ p.version)
 
--- After one more step of the reader, at most 4,112 bytes were read since the last flush, if it was less than 4,096
--- bytes after that before.
+-- If a reader is less than 4,096 bytes after the last flush, it is at most 4,112 bytes after it one step later.
 pub few_behind : (p : Progress) (events : List Event) (taken more flushed : List ℕ) (since : ℕ)
     → IsReading p taken events
     → ((rest : List ℕ) → capture (taken ++ rest) ≡ then_events events (capture_from p rest))

@@ -224,7 +224,7 @@ module _ (mode : Mode) (s : State) (number : ℕ) (xs ys : List ℕ) (before mid
             omega (arith, e, first.cost, next.cost);
       }
 
--- Words after those that were fed change nothing if a line could not be written.
+-- If a line could not be written, the words after it do not matter.
 pub stops_early : (mode : Mode) (s : State) (number : ℕ) (words xs ys : List ℕ) (before now : Outlets) (gpu : Kept)
     → words ≡ xs ++ ys
     → StopsFeeding (in_event number mode) s xs before (drawing now gpu)

@@ -67,7 +67,7 @@ behind-next ram address (suc n) =
     let e : address + 4 * suc n + 4 ≡ address + 4 + 4 * n + 4 = omega arith in
     rw e (ap (λ words. word_at ram (address + 4) ∷ words) (behind-next ram (address + 4) n))
 
--- An address and its cut form name the same word of memory.
+-- `cut` does not change which word of memory an address names.
 word_cut : (ram : List ℕ) (address : ℕ) → word_at ram (cut address) ≡ word_at ram address
 word_cut ram address = let e : place_of (cut address) ≡ place_of address = omega arith in rw e refl
 

@@ -71,7 +71,7 @@ words_on ram at n m back k (suc i) most =
     rw (e, ← address) (ap (λ words. words ++ word_at ram (address_in later i) ∷ []) (words_on ram at n m back k i less)
     ∙ append_assoc (first_words ram block k) (first_words ram later i) (word_at ram (address_in later i) ∷ []))
 
--- A block that starts at a cut address has the same addresses.
+-- `cut` of the start address does not change the addresses of a block.
 start_cut : (at n : ℕ) (back : Bool) (i : ℕ) → i ≤ 524288
     → address_in (record { at = cut at; n = n; back = back }) i ≡ address_in (record { at = at; n = n; back = back }) i
 unfolding address_in
@@ -90,7 +90,7 @@ words_cut ram at n back (suc i) most =
 
 -- ---- walks
 
--- A cut address ends no list.
+-- An address after `cut` ends no list.
 whole_goes : (address : ℕ) → is_end (cut address) ≡ false
 whole_goes address = let e : cut address / 2 ^ 23 % 2 ≡ 0 = omega arith in rw e refl
 

@@ -9,8 +9,8 @@ use Rattle.event_play.specs.declared.ending.Mode.{Mode}
 use Rattle.event_play.specs.declared.ending.Mode.TheVariants.{Vram, Shot, Report, Frames, Sums, Pixel}
 use Rattle.event_play.specs.declared.ending.Mode.TheVariants.{List as Listing, Play as Words}
 
--- the lines of shown words, the pictures of the selected frames or the lines of their digests, the lines of notes
--- except for pixels of a load, or the lines of changes of a cell
+-- the lines of shown words; the pictures of the selected frames, or the lines of their digests; the lines of notes,
+-- except for pixels of a load; or the lines of changes of a cell
 abbrev pub lines_for : Mode → (shown : List ℕ) → (frames : List Frame) → (notes : List Note)
     → (strokes : List Stroke) → List ℕ
 lines_for Words shown frames notes strokes = flat_map word_line shown

@@ -46,8 +46,8 @@ abbrev pub ending_under : Mode → Played → Ending
 ending_under mode r =
     unless_lacking (lacks_picture mode r.tale.state.gpu.parts.regs) (next_number r.tale.played) r.ending
 
--- the final output: the status line, all cells of video memory, the picture if one is shown, the line of its digest and
--- that of video memory, or the line of each tap; `number`: the number of the next event
+-- the final output: the status line; all cells of video memory; the picture if one is shown; the line of its digest and
+-- that of video memory; or the line of each tap. `number`: the number of the next event
 unfoldable pub final_bytes : Mode → (heard : List Reading) → (number : ℕ) → State → List ℕ
 final_bytes Words heard number s = status_line (status_word s)
 final_bytes Listing heard number s = []

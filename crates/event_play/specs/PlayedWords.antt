@@ -37,8 +37,8 @@ word_notes t (word ∷ words) =
 abbrev pub number_behind : (played count : ℕ) → ℕ
 number_behind played count = min (played + count) (2 ^ 64 - 1)
 
--- The GPU, the number of events played, the taps and the store steps are those of replay `t`, which began with the taps
--- and store steps `first`.
+-- The GPU, the number of events played, the taps and the store steps are those of replay `t`. `first`: the taps and the
+-- store steps before it.
 pub record IsTold (t : Tale) (first now : Outlets) (gpu : Kept) (played : ℕ) : Type 0 where
   pub state : kept_of t.state.gpu ≡ gpu
   pub number : t.played ≡ played

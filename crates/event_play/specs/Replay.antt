@@ -16,8 +16,8 @@ use Rattle.event_play.specs.declared.ending.Ending.{Ending}
 use Rattle.event_play.specs.declared.ending.Ending.TheVariants.{Done, Stopped, Faulted}
 use Rattle.event_play.specs.declared.fault.EventFault.{EventFault}
 
--- the trace of a replay: the machine, the number of events played, the shown words, the frames, the notes, the changes,
--- and the most store steps of all this, also by the boxes
+-- the trace of a replay: the machine, the number of events played, the shown words, the frames, the notes and the
+-- changes. `cost`: the most store steps of all this; `box_cost`: the same by the boxes
 pub record Tale : Type 0 where
   pub state : Machine
   pub played : ℕ

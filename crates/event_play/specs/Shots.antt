@@ -21,7 +21,7 @@ is_due at other = false
 abbrev pub shot_of : Machine → (played : ℕ) → List Event → List ℕ
 shot_of s played events = out_bytes Shot [] (alone (from_state s played) events)
 
--- for each event after `before` with a picture, what `shot` writes for all events up to it
+-- for each event after `before` that has a picture, what `shot` writes for all events up to it
 abbrev pub film : Moment → Machine → (played : ℕ) → (before events : List Event) → List ℕ
 film at s played before [] = []
 film at s played before (event ∷ events) =

@@ -35,8 +35,8 @@ with_past past r = record { tale = behind_past past r.tale; ending = r.ending; r
 
 -- If a whole replay ends with `Done`, none of its first events has a fault. Events after others without a fault
 -- continue from the replay of those. What they show, note, change and cost depends only on its machine, and is added to
--- what it has. So the output is the lines of the earlier events, and then the output of the later ones from its
--- machine, with taps that recorded its notes.
+-- what it has. So the output is the lines of the earlier events, and then the output of the later ones. The taps of the
+-- later ones have recorded the earlier notes.
 pub record SplitLaw : Type 0 where
   pub first : (t : Tale) (events more : List Event) (stop : Stop) (rest : List ℕ)
       → (played_events t (events ++ more) stop rest).ending ≡ Done → AreFaultless t events

@@ -14,7 +14,8 @@ pub struct Block {
     pub back: bool,
 }
 
-/// Returns the byte address of word `i` of a block. `i` may be `block.n`: the address after the last word.
+/// Returns the byte address of word `i` of a block, `i` at most 524,288. For `i` = `block.n` this is the address after
+/// the last word.
 #[tactic(auto, unfolding(crate::specs::Block::address_in))]
 pub(crate) fn address_in(block: Block, i: u32) -> u32
     requires { i ≤ memory_words }

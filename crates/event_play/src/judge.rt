@@ -14,7 +14,7 @@ use list_dma::{DmaFault, Plan, Run, Walk, block_plan, next_node, start_run};
 use ot_clear_dma::Ram;
 
 /// Returns the operation of an event, or its fault. Walks a list to its end before any of it is fed. `walk` is scratch
-/// memory for that; it has no value in contracts.
+/// memory for that; it has no value in contracts. `running` must be in its bounds.
 pub(crate) fn judge(
     event: &Event,
     walk: &mut Walk,

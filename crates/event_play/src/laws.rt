@@ -12,8 +12,8 @@ pub fn turns_are_whole()
     ensures { TurnsAreWhole }
 {}
 
-/// Playing costs at most four store steps for each cell in the boxes of what it draws, fills and copies, and for each
-/// pixel that it loads or reads.
+/// Playing costs at most four store steps per cell. Counted are the cells in the boxes of what it draws, fills and
+/// copies, and the pixels that it loads or reads.
 pub fn costs_are_small()
     ensures { CostsAreSmall }
 {}

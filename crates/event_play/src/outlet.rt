@@ -94,7 +94,8 @@ pub(crate) fn put_changed<O: Outlet>(
     }
 }
 
-/// Adds the line of a note to event `number`, unless there is none or it is for pixels of a load.
+/// Adds the line of a note to event `number`, unless there is none or it is for pixels of a load. The class of the note
+/// must be at most 9.
 pub(crate) fn put_listed<O: Outlet>(
     number: u64,
     note: &Option<Note>,
@@ -111,7 +112,8 @@ pub(crate) fn put_listed<O: Outlet>(
     }
 }
 
-/// Adds the line of a note to the note's own event, unless there is none or it is for pixels of a load.
+/// Adds the line of a note to the note's own event, unless there is none or it is for pixels of a load. The class of
+/// the note must be at most 9.
 pub(crate) fn put_noted<K: Sink>(note: &Option<Note>, lines: &mut Lines<K>) -> Result<(), u64>
     requires { IfSome note.now (λ note. note.class ≤ 9) }
     ensures puts { PutsPieces (listed_pieces (option_to_list note.now))
@@ -132,7 +134,7 @@ pub(crate) fn put_noted<K: Sink>(note: &Option<Note>, lines: &mut Lines<K>) -> R
     }
 }
 
-// Adds the line of a note.
+// Adds the line of a note. Its class must be at most 9.
 fn put_note<O: Outlet>(number: u64, note: &Note, lines: &mut O) -> Result<(), u64>
     requires { note.now.class ≤ 9 }
     ensures puts { Puts (piece number (note_line note.now)) (O.state lines.old) (O.state lines.new) result }

@@ -31,10 +31,10 @@ impl Rig {
     /// Plays a capture to its End, from the machine as it is, and writes the output of `mode`. The taps receive every
     /// note. A capture of version 3 is played in the tall profile.
     ///
-    /// Lines of items are buffered, up to 4,096 bytes. The buffer is flushed if the next line does not fit, before a
-    /// read that may have to wait, after 2,048 bytes of input, and before every ending. A write may fail while a later
-    /// event is processed. The error still names the first event whose lines are incomplete. By then, at most 4,112
-    /// bytes after that event were read. All other output is written at its event.
+    /// Lines of items are buffered, up to 4,096 bytes. The buffer is flushed if a line does not fit, before a read that
+    /// may wait, after 2,048 bytes of input, and before every ending. A write may fail while a later event is
+    /// processed. The error still names the first event whose lines are incomplete. By then, at most 4,112 bytes after
+    /// that event were read. All other output is written at its event.
     ///
     /// `Done` means that the capture was whole and all output was written. After every ending except `WriteFailed`, the
     /// rig is as after the events played. If the line of an item cannot be written, the remaining words of its event

@@ -109,7 +109,8 @@ impl Rig {
         self.gpu.set_cells(x, y, lanes, steps);
     }
 
-    /// Replaces the number of events played and the running transfer. Everything else stays.
+    /// Replaces the number of events played and the running transfer. Everything else stays. `run` must be in its
+    /// bounds: word addresses of main memory, 1 to 524,288 words left, blocks of 1 to 10000h words.
     pub fn set_run(&mut self, played: u64, run: Run)
         requires { IsRun run }
         ensures { self.new ≡ record self.old { running = run; played = played } }

@@ -66,7 +66,8 @@ const NO_BLOCK: Block = Block {
 };
 
 impl<'a> WordCursor<'a> {
-    /// Returns a cursor over all of these words.
+    /// Returns a cursor over all of these words. A block must have at most 524,288 words, and the address of a node
+    /// must be at most 200000h.
     #[tactic(auto, unfolding(list_dma::specs::Walk::list_words, list_dma::specs::Walk::walk_of))]
     pub fn new(ram: &'a Ram, words: Words) -> WordCursor<'a>
         requires { AreWords words }
