@@ -9,7 +9,7 @@ ghost use Rattle.dead_drawing.specs.Slim.{slim_events};
 
 /// Two states agree outside of an area, in the registers, the open transfers and the pending words. They still do after
 /// the same event, if it is no read of GPUREAD and completes no item that reads other cells. The event shows the same
-/// words in both. A fill that covers the area makes the states the same.
+/// words in both. A fill that covers the area makes the states the same, if video memory has whole rows.
 pub fn events_keep_alike()
     ensures calm { CalmEventsKeepAlike }
     ensures fill { FillsMakeSame }
@@ -17,7 +17,7 @@ pub fn events_keep_alike()
 
 /// The words of a polygon or rectangle without texture, or of a single line, may be left out in two cases: it draws
 /// nothing, or a later fill covers its area before anything reads it. Whatever events come before and after, the same
-/// words are shown, and the final status word and video memory are the same.
+/// words are shown, and the final status word and video memory are the same. Video memory must have whole rows.
 pub fn packets_are_unseen()
     ensures { PacketsAreUnseen }
 {}
