@@ -19,8 +19,8 @@ use Rattle.capture_cut.specs.Cut.{CutAt, events_of}
 use Rattle.capture_cut.specs.File.{begun, cut_file}
 use Rattle.capture_cut.specs.declared.file.Draft.{Draft}
 
--- these bytes are due at the event of this number, one of the later ones, behind those that were due before; the bytes
--- that were taken up to it begin with those that were when all was last written
+-- `due` is the record of event `number`, one of the later events, and follows the output `was`. `flushed`: the bytes
+-- read at the last flush. The bytes that this event needs start with them.
 pub record WasDue (t : Tale) (played events : List Event) (flushed taken : List ℕ) (number : ℕ)
     (was due : List ℕ) : Type 0 where
   pub earlier : List Event
@@ -36,7 +36,7 @@ pub record WasDue (t : Tale) (played events : List Event) (flushed taken : List 
   pub taken_is : taken ≡ (flushed ++ between) ++ rest
   pub needed : AreNeeded capture (played ++ (earlier ++ event ∷ [])) (flushed ++ between)
 
--- where more events come, and more bytes are taken
+-- the same after further events and bytes are read
 pub due_more : (t : Tale) (played events more all : List Event) (flushed taken further : List ℕ)
     → all ≡ events ++ more → (number : ℕ) (was due : List ℕ) → WasDue t played events flushed taken number was due
     → WasDue t played all flushed (taken ++ further) number was due
@@ -56,7 +56,7 @@ due_more t played events more all flushed taken further all_are number was due i
   needed = is.needed;
 }
 
--- the last of the events
+-- the record of the last event read
 pub due_here : (t : Tale) (played events : List Event) (given : Event) (flushed behind taken further : List ℕ)
     (number : ℕ)
     → number ≡ length (played ++ events) + 1 → length (cut_file t (events ++ given ∷ [])) ≤ limit
@@ -80,7 +80,8 @@ due_here t played events given flushed behind taken further number number_is fit
       needed = rw all at needed;
     }
 
--- the first n events were played, and the records of those behind them put
+-- The first n events were played, and the records of the later ones written or buffered. `since`: offset of the reader
+-- at the last flush. At most 4,112 bytes were read after it.
 pub record Comes (at : CutAt) (before now : Streams) (rig : RigState) (p : Progress) (draft : Draft)
     (since count : ℕ) : Type 0 where
   pub on : GoesOn at before (unheld now) rig p
@@ -95,7 +96,7 @@ pub record Comes (at : CutAt) (before now : Streams) (rig : RigState) (p : Progr
   pub gathers : Gathers (WasDue on.way.tale on.way.played on.way.later flushed on.way.taken) before.held
       (begun on.way.tale on.way.later) now.held draft.gathered
 
--- nothing is gathered, and all stands
+-- at the start: nothing is buffered, and all output was written
 pub comes_first : (at : CutAt) (before now : Streams) (rig : RigState) (r : Reached) (draft : Draft)
     (since number : ℕ) → draft.size ≡ r.size → draft.gathered ≡ [] → since ≡ r.progress.place → number ≡ r.count
     → Came at before now rig r → Comes at before now rig r.progress draft since number
@@ -118,11 +119,11 @@ comes_first at before now rig r draft since number size_same none place counted 
       gathers = subst Q (sym none) (gathers_none due before.held (begun way.tale way.later) now.held came.held);
     }
 
--- a draft of which these pieces are gathered
+-- the draft with these pieces as its buffer
 abbrev with_pieces : Draft → List Piece → Draft
 with_pieces draft pieces = record { size = draft.size; gathered = pieces }
 
--- all that is gathered is written
+-- the buffer is flushed
 comes_written : (cut : CutAt) (before now : Streams) (rig : RigState) (p : Progress) (draft : Draft)
     (pieces : List Piece) (since at count : ℕ) (held : Option (List ℕ)) → pieces ≡ [] → at ≡ p.place
     → IsWritten now.held held draft.gathered
@@ -149,7 +150,7 @@ comes_written cut before now rig p draft pieces since at count held none place w
           draft.gathered came.gathers written));
     }
 
--- a pause: few bytes were taken since all was written, or it is written here
+-- before the next read: the reader is less than 4,096 bytes after the last flush
 pub record Paused (cut : CutAt) (before now : Streams) (rig : RigState) (p : Progress) (draft : Draft)
     (since count : ℕ) : Type 0 where
   pub comes : Comes cut before now rig p draft since count

@@ -1,4 +1,4 @@
--- The state behind the first events.
+-- The state after the first events.
 use Rattle.std.proofs.Common.{◌≡◌, ◌≤◌, ◌<◌, ◌^◌, inl, ◌+◌, ◌++◌, ℕ, List, [], Option, length, refl, ap, sym, subst}
 use Rattle.std.proofs.Common.{◌∙◌, append-nil, arith}
 use Rattle.dev_io.specs.Device.{appended, AppendsPart}
@@ -17,7 +17,7 @@ use Rattle.capture_cut.specs.File.{begun, rig_bytes, rig_of, snapshot, IsWritabl
 use Rattle.capture_cut.specs.declared.ending.CutEnding.TheVariants.{WriteFailed}
 use Rattle.capture_cut.proofs.Reading.{reads_to}
 
--- a rig that stands for a tale is what a tale keeps
+-- A rig that agrees with a replay in each part is that replay's rig (`rig_of`).
 pub of_parts : (rig : RigState) (gpu : Kept) (ram : List ℕ) (running : Run) (played : ℕ) → gpu ≡ rig.gpu → ram ≡ rig.ram
     → running ≡ rig.running → played ≡ rig.played
     → ◌≡◌ {A = RigState} (record { gpu = gpu; ram = ram; running = running; played = played }) rig
@@ -56,11 +56,11 @@ module _ (cut : CutAt) (before now : Streams) (rig : RigState) (p : Progress)
   spent = spent_on before.steps now.steps steps at.tale.cost (dump_cost rig.gpu.parts.m) _ at.cost cost
       (ap (λ (k : Kept). dump_cost k.parts.m) (sym at.stands.rig_is.state.gpu))
 
-  -- so few events were played
+  -- fewer than 2^63 events were played
   few : cut.n < 2 ^ 32 → rig.played < 2 ^ 63
   few small = omega (arith, small, at.many, at.plays.counts, at.stands.rig_is.played)
 
-  -- nothing is written behind the state yet
+  -- without later events the file is the state alone
   bare : begun at.tale [] ≡ rig_bytes rig
   bare = append-nil (snapshot at.tale) ∙ same
 

@@ -1,4 +1,4 @@
--- How it ends among the first events.
+-- How cutting ends before the first n events are played.
 use Rattle.std.proofs.Common.{◌≡◌, ◌≤◌, ◌<◌, ◌+◌, ◌^◌, ◌++◌, ◌==◌, ℕ, List, [], ◌∷◌, Result, Ok, Err}
 use Rattle.std.proofs.Common.{length, refl, ap, sym, subst, ◌∙◌, append-nil, arith, false}
 use Rattle.dev_io.specs.Device.{prepended}
@@ -41,7 +41,7 @@ module _ (k n : ℕ) (start : Tale) (version : ℕ) (before now : Streams) (was 
   way answer at taken =
       record { version = version; taken = taken; played = at.events; tale = at.tale; later = [] }
 
-  -- nothing was played of the answer
+  -- What the reader returned was not played: the rig and the taps are unchanged.
   ends : (answer : Result Event Stop) (at : Awaits k start version before now was new answer) (taken : List ℕ)
       (ending : CutEnding) → IsIdle mid behind was rig → before.left ≡ prepended taken now.left
       → SaysEnding n (way answer at taken) before after ending → EndsCut (cut_at n start) before after rig ending
@@ -60,7 +60,7 @@ module _ (k n : ℕ) (start : Tale) (version : ℕ) (before now : Streams) (was 
         box_cost = spent_within before.steps steps at.tale.cost at.tale.box_cost _ within at.small;
       }
 
-  -- it is behind the events that were played, fewer than are to be
+  -- the event after those that were played, of which there are fewer than n
   is_early : (answer : Result Event Stop) (at : Awaits k start version before now was new answer) (taken : List ℕ)
       (number : ℕ) → now.held ≡ before.held → number ≡ next_number at.tale.played
       → IsEarly n (way answer at taken) number before after
@@ -87,7 +87,7 @@ module _ (k n : ℕ) (start : Tale) (version : ℕ) (before now : Streams) (was 
         },
       )
 
-  -- the same of a stop of the reader
+  -- the reader stopped after the events that were played
   stops_way : (stop : Stop) (at : Awaits k start version before now was new (Err stop))
       → StopsBehind (way (Err stop) at (at.taken ++ at.answers.taken)) stop now.left
   stops_way stop at =

@@ -1,4 +1,4 @@
--- The values of a rig are within their bounds.
+-- The values of a rig are in their bounds and fit their words.
 use Rattle.std.proofs.Common.{◌≡◌, ◌≤◌, ◌<◌, ◌+◌, ◌*◌, ◌^◌, ◌++◌, inl, inr, ℕ, suc, Bool, true, false, List, []}
 use Rattle.std.proofs.Common.{◌∷◌, Option, None, Some, length, slice_index, take, drop, sym, subst, arith}
 use Rattle.std.proofs.lemmas.Bool.Decides.{nat_tests}
@@ -37,7 +37,7 @@ cells_both : (a b : List ℕ) → AreCells a → AreCells b → AreCells (a ++ b
 cells_both [] b first next = next
 cells_both (cell ∷ a) b first next = (first.0, cells_both a b first.1 next)
 
--- some cells more, behind a place
+-- k cells from index `start` on, then n more
 pub cells_on : (m : List ℕ) (start k n : ℕ) → AreCells (take k (drop start m)) → AreCells (take n (drop (start + k) m))
     → AreCells (take (k + n) (drop start m))
 cells_on m start k n first next =
@@ -46,7 +46,7 @@ cells_on m start k n first next =
     (cells_both (take k (drop start m)) (take n (drop k (drop start m))) first
     (subst Next (sym (drop-drop k start m)) next))
 
--- the same, of lanes that were read
+-- the same if these n cells were loaded as lanes
 pub cells_next : (m lanes : List ℕ) (start k next n : ℕ) → AreCells (take k (drop start m))
     → lanes ≡ take n (drop (start + k) m) → ((j : ℕ) → slice_index lanes j < 2 ^ 16) → next ≡ k + n
     → AreCells (take next (drop start m))
@@ -57,11 +57,11 @@ cells_next m lanes start k next n first loaded each is =
 pub cells_whole : (m : List ℕ) (k n : ℕ) → AreCells (take k m) → k ≡ n → AreCells (take n m)
 cells_whole m k n are is = let Upto : ℕ → Type 0 = λ count. AreCells (take count m) in subst Upto is are
 
--- all of them
+-- all cells, if there are at most k
 pub cells_all : (m : List ℕ) (k : ℕ) → AreCells (take k m) → length m ≤ k → AreCells m
 cells_all m k are le = subst AreCells (take_all k m le) are
 
--- a row more
+-- one more row of 1,024 cells
 pub cells_row : (m : List ℕ) (k next : ℕ) → AreCells (take k m) → AreCells (take 1024 (drop k m)) → next ≡ k + 1024
     → AreCells (take next m)
 cells_row m k next first row is =
@@ -165,7 +165,7 @@ job_fits height job tall is =
 first_most : (w : ℕ) → first_len_of w ≤ 12
 first_most w = grind (arith, nat_tests)
 
--- the words of an item that is not whole
+-- the words of an incomplete packet
 pub packet_fits : (words : List ℕ) → IsPending (pending.Packet words) → ((k : ℕ) → slice_index words k < 2 ^ 32)
     → AreWords (pending_words (pending.Packet words) None)
 packet_fits words is each =

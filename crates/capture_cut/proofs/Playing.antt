@@ -1,4 +1,4 @@
--- The first events, one after another.
+-- The first n events are read and played, one after another.
 use Rattle.std.proofs.Common.{◌≡◌, ◌≤◌, ◌<◌, ◌+◌, ◌^◌, ◌++◌, ℕ, List, [], ◌∷◌, Option, Result, Ok, Err}
 use Rattle.std.proofs.Common.{OnOk, IfOk, IfErr, length, length-append, refl, ap, sym, subst, ◌∙◌, append_assoc, arith}
 use Rattle.gpu_capture.specs.Reader.{Takes, StopsAt, IsStart, standing}
@@ -25,7 +25,7 @@ use Rattle.capture_cut.proofs.Reading.{read_none, read_on, version_on}
 
 -- ---- playing
 
--- nothing was played yet
+-- before the first event
 plays_none : (s : Machine) (version : ℕ)
     → Plays (raised (from_state s 0) version) [] (raised (from_state s 0) version)
 plays_none s version = record {
@@ -40,7 +40,7 @@ stands_none s version heard rig stands =
     let first : IsFirst (raised (from_state s 0) version) = raised_first (from_state s 0) version (from_first s 0) in
     record { rig_is = stands; heard = rw first.notes refl }
 
--- the tale with one event more
+-- the replay with one more event
 abbrev next_tale : (t : Tale) (event : Event) (before now : Outlets) (rig : RigState)
     → PlaysNext t event before now rig → Tale
 next_tale t event before now rig plays = tale_on t event plays.step.machine plays.shown plays.step.notes
@@ -71,7 +71,7 @@ stands_on t event heard mid now was rig stands next = record {
       ∙ sym (told-append t.notes next.step.notes heard);
 }
 
--- ---- a reader that has answered
+-- ---- the reader has returned an event or a stop
 
 pub record Awaits (n : ℕ) (start : Tale) (version : ℕ) (before now : Streams) (rig : RigState) (new : Progress)
     (answer : Result Event Stop) : Type 0 where
@@ -137,7 +137,7 @@ awaits_next n start before now rig old new left next was takes known stops =
       small = was.small;
     }
 
--- ---- it is played
+-- ---- the event is played
 
 pub played_on : (n : ℕ) (start : Tale) (version : ℕ) (before now : Streams) (was rig : RigState) (new : Progress)
     (answer : Result Event Stop) (heard : List Reading) (steps : ℕ)

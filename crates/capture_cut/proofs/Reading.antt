@@ -1,4 +1,4 @@
--- What was read so far, and the next answer of the reader.
+-- What was read so far, and what the reader returns next.
 use Rattle.std.proofs.Common.{◌≡◌, ◌≤◌, ◌++◌, ℕ, List, [], ◌∷◌, Option, Result, Ok, Err, OnOk, IsOk, IfErr}
 use Rattle.std.proofs.Common.{false, true, refl, sym, ◌∙◌}
 use Rattle.dev_io.specs.Device.{prepended}
@@ -21,7 +21,7 @@ read_none left p is = record {
   needed = none_needed [] refl;
 }
 
--- one event more
+-- one more event
 pub read_on : (before mid now : Option (List ℕ)) (old new : Progress) (xs : List ℕ) (events : List Event)
     (given : Event) → HasRead before mid old xs events
     → (takes : Takes (standing old mid) (standing new now) (given ∷ []))
@@ -32,7 +32,7 @@ read_on before mid now old new xs events given was takes = record {
   needed = needed_on old events given xs takes.taken was.says was.needed takes.needed;
 }
 
--- what the format says of the bytes of a way
+-- what the format says of the bytes that a `Way` has read
 pub reads_to : (before now : Option (List ℕ)) (p : Progress) (events : List Event) (way : Way)
     → HasRead before now p way.taken events → 1 ≤ p.version → way.version ≡ p.version → ReadsTo way events
 reads_to before now p events way has known same = record {
@@ -55,9 +55,9 @@ stops_behind before mid now old new xs stop way was stops same taken = record {
   needed = rw taken (needed_end old (events_of way) xs stops.taken was.says was.needed stops.needed);
 }
 
--- ---- the next answer
+-- ---- what the reader returns next
 
--- behind the head it is of the same version
+-- After the file header, the version stays the same.
 pub version_on : (old new : Progress) (before now : Option (List ℕ)) (next : Result Event Stop)
     → Answers old new before now next → 1 ≤ old.version → old.version ≡ new.version
 version_on old new before now (Ok event) answer known =
@@ -65,12 +65,12 @@ version_on old new before now (Ok event) answer known =
 version_on old new before now (Err stop) answer known =
     stops_version old new.version stop answer.taken now answer.says known
 
--- an answer that is an event
+-- the reader returned an event
 pub answered : (next : Result Event Stop) (P : Type 0) → IsOk next → OnOk next P → P
 answered (Ok event) P is on = on
 answered (Err stop) P is on = let none : false ≡ true = is in absurd cc
 
--- an answer that the source failed
+-- the reader returned that its source failed
 pub failed : (next : Result Event Stop) (P : Type 0) → IsReadFailure next
     → IfErr next (λ stop. IsReadFault stop → P) → P
 failed (Ok event) P is cause = absurd is

@@ -35,7 +35,7 @@ use Rattle.capture_cut.proofs.Reading.{read_on, reads_to, stops_behind, stops_by
 
 -- ---- bytes
 
--- one record more
+-- one more record
 begun_on : (t : Tale) (later : List Event) (event : Event)
     → begun t (later ++ event ∷ []) ≡ begun t later ++ spelled event
 begun_on t later event =
@@ -64,7 +64,7 @@ more_events played later event = sym (append_assoc played later (event ∷ []))
 is_whole : (n : ℕ) → (n == n) ≡ true
 is_whole n = grind arith
 
--- ---- an event more
+-- ---- one more event
 
 module _ (cut : CutAt) (before now : Streams) (rig : RigState) (old : Progress) (draft : Draft)
     (since count : ℕ) (at : Comes cut before now rig old draft since count) (left held : Option (List ℕ)) where
@@ -74,7 +74,7 @@ module _ (cut : CutAt) (before now : Streams) (rig : RigState) (old : Progress) 
   abbrev after : Streams
   after = streams left held now.heard now.steps
 
-  -- where it came, with these events behind the first
+  -- the `Way` with these bytes read and these later events
   abbrev way : List ℕ → List Event → Way
   way taken later = record {
     version = far.version;
@@ -87,7 +87,7 @@ module _ (cut : CutAt) (before now : Streams) (rig : RigState) (old : Progress) 
   abbrev all : List ℕ
   all = begun far.tale far.later
 
-  -- what was due, where these bytes were taken and these events came behind the first
+  -- what is known of a buffered record, with these bytes read and these later events
   abbrev due : List ℕ → List Event → (number : ℕ) → (was is : List ℕ) → Type 0
   due taken later = WasDue far.tale far.played later at.flushed taken
 
@@ -104,7 +104,7 @@ module _ (cut : CutAt) (before now : Streams) (rig : RigState) (old : Progress) 
     box_cost = spent_within before.steps now.steps far.tale.cost far.tale.box_cost _ at.on.cost at.on.small;
   }
 
-  -- a failed write of what is gathered
+  -- a flush that failed
   lacks : (taken : List ℕ) (later : List Event) (number : ℕ) → before.left ≡ prepended taken left
       → SaysFirst capture (way taken later).version taken (events_of (way taken later))
       → length taken ≤ length at.flushed + most_behind
@@ -134,7 +134,7 @@ module _ (cut : CutAt) (before now : Streams) (rig : RigState) (old : Progress) 
         fits = is.fits;
       })))
 
-  -- at a pause, where no more was taken
+  -- at a pause: no further byte was read
   pub pause_lacks : (lacking : ℕ) → before.left ≡ prepended far.taken left
       → BreaksWriting now.held held draft.gathered lacking → EndsCut cut before after rig (WriteFailed lacking)
   pause_lacks lacking bytes breaks =
@@ -145,10 +145,10 @@ module _ (cut : CutAt) (before now : Streams) (rig : RigState) (old : Progress) 
       (gathers_off (due far.taken far.later) before.held all now.held held
       draft.gathered lacking at.gathers breaks)
 
-  -- ---- the next answer of the reader
+  -- ---- what the reader returns next
 
   module _ (new : Progress) (near : old.place < since + 4096) where
-    -- few bytes are taken with these
+    -- With these bytes, at most 4,112 were read after the last flush.
     few : (further : List ℕ) → ReaderNeeds old further
         → length (far.taken ++ further) ≤ length at.flushed + most_behind
     few further needed =

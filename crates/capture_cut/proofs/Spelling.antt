@@ -33,7 +33,7 @@ rig_length rig outline m ram a b d is cells words front_is cells_is ram_is =
     let e3 : d ≡ length (bytes_of rig.ram) = ram_is ∙ ap (λ ram. length (bytes_of ram)) words in
     omega (arith, all, first, next, e1, e2, e3)
 
--- the same, by an outline of the rig
+-- the same for an outline equal to the rig's
 pub rig_from : (rig : RigState) (outline : Outline) → outline ≡ outline_of rig
     → rig_bytes rig ≡ front outline ++ memories rig.gpu.parts.m rig.ram
 rig_from rig outline is = rig_split rig ∙ ap (λ o. front o ++ memories rig.gpu.parts.m rig.ram) (sym is)

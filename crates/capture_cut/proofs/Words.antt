@@ -15,7 +15,7 @@ use Rattle.snapshot_words.specs.Values.{cell_words}
 
 -- ---- words as bytes
 
--- one word more
+-- one more word
 pub word_on : (words bytes part : List ℕ) (i w : ℕ) → take (4 * i) bytes ≡ bytes_of (take i words)
     → part ≡ word_bytes (get_or words i 0) → length part ≡ 4 → i < length words → 4 * i ≤ length bytes
     → take (4 * (i + 1)) (put_mid (4 * i) w bytes part) ≡ bytes_of (take (i + 1) words)
@@ -24,14 +24,14 @@ word_on words bytes part i w so_far is long lt le =
     (sym (ap bytes_of (take_more words i 0 lt) ∙ flat_map-append word_bytes (take i words) (get_or words i 0 ∷ [])
     ∙ ap (λ bytes. bytes_of (take i words) ++ bytes) (append-nil (word_bytes (get_or words i 0)))))
 
--- all of them
+-- all 512 words
 pub words_whole : (words bytes : List ℕ) (i : ℕ) → take (4 * i) bytes ≡ bytes_of (take i words) → i ≡ 512
     → length bytes ≡ 2048 → length words ≡ 512 → bytes ≡ bytes_of words
 words_whole words bytes i so_far all long count =
     sym (take_all (4 * i) bytes (omega (arith, all, long))) ∙ so_far
     ∙ ap bytes_of (take_all i words (omega (arith, all, count)))
 
--- the words from a place on: some, and those behind them
+-- the words from index k on: n words, then the rest
 pub words_split : (words : List ℕ) (k n m : ℕ) → m ≡ k + n
     → bytes_of (drop k words) ≡ bytes_of (take n (drop k words)) ++ bytes_of (drop m words)
 words_split words k n m is =
@@ -46,7 +46,7 @@ pub ram_word : (ram : List ℕ) (k : ℕ) → k < memory_words → word_at ram (
 ram_word ram k lt =
     let e : 4 * k / 4 % 2 ^ 19 ≡ k = omega (arith, lt) in ap (λ place. get_or ram place 0) e
 
--- one word more
+-- one more word
 pub ram_on : (ram words : List ℕ) (first i word : ℕ) → length ram ≡ memory_words → first + 512 ≤ memory_words → i < 512
     → length words ≡ 512 → take i words ≡ take i (drop first ram) → word ≡ word_at ram (4 * (first + i))
     → take (i + 1) (set words i word) ≡ take (i + 1) (drop first ram)
@@ -80,7 +80,7 @@ cells_length h (x ∷ []) even = absurd (omega (arith, even))
 cells_length zero (x ∷ y ∷ m) even = absurd (omega (arith, even))
 cells_length (suc h) (x ∷ y ∷ m) even = ap suc (cells_length h m (omega (arith, even)))
 
--- two cells more
+-- two more cells
 pair_on : (lanes : List ℕ) (j : ℕ) → 2 * j + 1 < length lanes
     → cell_words (take (2 * (j + 1)) lanes)
     ≡ cell_words (take (2 * j) lanes) ++ (get_or lanes (2 * j) 0 + get_or lanes (2 * j + 1) 0 * 2 ^ 16) ∷ []
@@ -105,7 +105,7 @@ lanes_whole lanes words j so_far all long count =
 
 -- ---- rows of cells
 
--- sixteen cells more
+-- sixteen more cells
 pub row_on : (m words part lanes : List ℕ) (start k w : ℕ)
     → take (8 * k) words ≡ cell_words (take (16 * k) (drop start m)) → part ≡ cell_words lanes
     → lanes ≡ take 16 (drop (start + 16 * k) m) → 8 * k ≤ length words → length part ≡ 8 → start + 16 * k ≤ length m
@@ -126,7 +126,7 @@ row_whole m words start k so_far all long =
     let P : ℕ → Type 0 = λ n. take (8 * k) words ≡ cell_words (take n (drop start m)) in
     sym (take_all (8 * k) words (omega (arith, all, long))) ∙ subst P e so_far
 
--- the cells from a row on: that row, and those behind it
+-- the cells from index k on: one row, then the rest
 pub rows_split : (m : List ℕ) (k next : ℕ) → next ≡ k + 1024 → next ≤ length m
     → bytes_of (cell_words (drop k m))
     ≡ bytes_of (cell_words (take 1024 (drop k m))) ++ bytes_of (cell_words (drop next m))
@@ -139,7 +139,7 @@ rows_split m k next is fits =
     ∙ flat_map-append word_bytes (cell_words (take 1024 (drop k m))) (cell_words (drop 1024 (drop k m)))
     ∙ ap (λ xs. bytes_of (cell_words (take 1024 (drop k m))) ++ bytes_of (cell_words xs)) (drop-drop 1024 k m))
 
--- none is behind the last
+-- no cell follows the last one
 pub rows_end : (m : List ℕ) (k : ℕ) → length m ≤ k → bytes_of (cell_words (drop k m)) ≡ []
 rows_end m k le = ap (λ xs. bytes_of (cell_words xs)) (drop_all k m le)
 

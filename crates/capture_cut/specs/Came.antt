@@ -1,4 +1,4 @@
--- How far cutting a capture has come, between its steps.
+-- Intermediate states of cutting a capture.
 use Rattle.std.specs.Prelude.{◌≡◌, ◌≤◌, ◌<◌, ◌⊎◌, ℕ, List, ◌++◌, ◌+◌, ◌^◌, Option, None, Result, Ok, Err, length}
 use Rattle.dev_io.specs.Device.{prepended, appended, AppendsPart}
 use Rattle.gathered_out.specs.Pieces.{Piece, piece}
@@ -28,7 +28,7 @@ use Rattle.capture_cut.specs.declared.file.Draft.{Draft}
 
 -- ---- one event that is played
 
--- the reader answered an event, and it was played
+-- the reader returned an event, and it was played
 pub record PlaysNext (t : Tale) (event : Event) (before now : Outlets) (rig : RigState) : Type 0 where
   pub shown : Option ℕ
   pub step : HasStepped t.state (numbered (next_number t.played) event) shown before (setting now rig)
@@ -38,43 +38,43 @@ abbrev pub PlaysAnswer : Tale → Result Event Stop → (before now : Outlets) �
 PlaysAnswer t (Ok event) before now rig = PlaysNext t event before now rig
 PlaysAnswer t (Err stop) before now rig = ⊥
 
--- nothing was played
+-- nothing was played: the rig, the taps and the store steps are unchanged
 pub record IsIdle (before now : Outlets) (was rig : RigState) : Type 0 where
   pub rig_is : rig ≡ was
   pub unchanged : now ≡ before
 
--- how a stop of the reader among the first events ends it, where the next event would have this number
+-- How a stop of the reader before event n ends the cut. `number`: the number of the next event.
 abbrev pub EndsEarly : (number : ℕ) → Stop → CutEnding → Type 0
 EndsEarly number stop (PastEnd at) = (at ≡ number) × (stop ≡ End)
 EndsEarly number stop (Stopped at told) = (at ≡ number) × (told ≡ stop) × IsNotEnd stop
 EndsEarly number stop ending = ⊥
 
--- it has a fault, or the reader stopped
+-- how the cut ends if the event has a fault or the reader stopped
 abbrev pub EndsAnswer : Tale → Result Event Stop → CutEnding → Type 0
 EndsAnswer t (Ok event) (Faulted number fault) =
     (number ≡ next_number t.played) × (event_step t.state (next_number t.played) event ≡ Err fault)
 EndsAnswer t (Ok event) ending = ⊥
 EndsAnswer t (Err stop) ending = EndsEarly (next_number t.played) stop ending
 
--- the reader answered that its source failed
+-- the reader returned that its source failed
 abbrev pub IsReadFailure : Result Event Stop → Type 0
 IsReadFailure (Ok event) = ⊥
 IsReadFailure (Err stop) = IsReadFault stop
 
 -- ---- the first events
 
--- a reader goes on, and not without end
+-- The reader has not stopped, and the number of its remaining steps is bounded.
 pub record IsReady (progress : Progress) (stop : Option Stop) : Type 0 where
   pub goes_on : stop ≡ None
   pub few : work_left progress < 2 ^ 51
 
--- events were read up to a reader's place, and no byte was taken too many
+-- These events were read up to the reader's offset, and no byte that they do not need.
 pub record HasRead (before now : Option (List ℕ)) (p : Progress) (taken : List ℕ) (events : List Event) : Type 0 where
   pub bytes : before ≡ prepended taken now
   pub says : (rest : List ℕ) → capture (taken ++ rest) ≡ then_events events (capture_from p rest)
   pub needed : AreNeeded capture events taken
 
--- so many events were read and played
+-- the first `at.n` events were read and played
 pub record PlaysFirst (at : CutAt) (before now : Streams) (rig : RigState) (p : Progress) : Type 0 where
   pub taken : List ℕ
   pub events : List Event
@@ -87,9 +87,9 @@ pub record PlaysFirst (at : CutAt) (before now : Streams) (rig : RigState) (p : 
   pub cost : now.steps ≤ before.steps + tale.cost
   pub small : tale.cost ≤ tale.box_cost
 
--- ---- the events behind them
+-- ---- the events after them
 
--- where the reader stands, how many events it has read, and how many bytes were written
+-- the reader's state, the number of events read, and the number of bytes written
 pub record Reached : Type 0 where
   pub progress : Progress
   pub count : ℕ
@@ -98,11 +98,11 @@ pub record Reached : Type 0 where
 abbrev pub reached : Progress → (count size : ℕ) → Reached
 reached progress count size = record { progress = progress; count = count; size = size }
 
--- the same where nothing is told of the sink
+-- the same if the bytes of the sink are unknown
 abbrev pub unheld : Streams → Streams
 unheld at = record at { held = None }
 
--- the first n events were played, and those behind them read; it goes on so whatever is written
+-- The first n events were played, and the later ones read. Nothing here depends on the sink.
 pub record GoesOn (at : CutAt) (before now : Streams) (rig : RigState) (progress : Progress) : Type 0 where
   pub way : Way
   pub all : length way.played ≡ at.n
@@ -116,7 +116,8 @@ pub record GoesOn (at : CutAt) (before now : Streams) (rig : RigState) (progress
   pub writable : IsWritable (rig_of way.tale)
   pub allowed : AllowsAll 2 way.later
 
--- the state behind the first n, and the records of those behind them, were written
+-- The state after the first n events and the records of the later ones were written. An End record (4 bytes) still
+-- fits.
 pub record Came (at : CutAt) (before now : Streams) (rig : RigState) (r : Reached) : Type 0 where
   pub on : GoesOn at before (unheld now) rig r.progress
   pub count_is : r.count ≡ length (events_of on.way)
@@ -124,7 +125,7 @@ pub record Came (at : CutAt) (before now : Streams) (rig : RigState) (r : Reache
   pub size_is : r.size ≡ length (begun on.way.tale on.way.later)
   pub fits : r.size + 4 ≤ limit
 
--- a draft, and what the sink holds, where that is told
+-- a draft, and the bytes that the sink holds (None if unknown)
 pub record Writing : Type 0 where
   pub draft : Draft
   pub held : Option (List ℕ)
@@ -132,20 +133,20 @@ pub record Writing : Type 0 where
 abbrev pub writing : Draft → (held : Option (List ℕ)) → Writing
 writing draft held = record { draft = draft; held = held }
 
--- the record of the event of this number was put behind the file so far, with room for an End record
+-- The record of event `number` was added to the file. An End record (4 bytes) still fits.
 pub record PutsRecord (number : ℕ) (event : Event) (before now : Writing) : Type 0 where
   pub put : IsPut (piece number (spelled event)) (holding before.held before.draft.gathered)
       (holding now.held now.draft.gathered)
   pub size_is : now.draft.size ≡ before.draft.size + length (spelled event)
   pub fits : now.draft.size + 4 ≤ limit
 
--- what is gathered was written at a record that would be too much, or that failed
+-- The next record would make the file too long: the buffer was flushed, or the flush failed.
 abbrev pub EndsTooLong : (number : ℕ) → List Piece → (before now : Option (List ℕ)) → CutEnding → Type 0
 EndsTooLong number gathered before now (TooLong at) = (at ≡ number) × IsWritten before now gathered
 EndsTooLong number gathered before now (WriteFailed at) = BreaksWriting before now gathered at
 EndsTooLong number gathered before now ending = ⊥
 
--- it would be too much, and was not put; or there was room for it, and the writing failed
+-- The record would make the file too long and was not added; or it fits, and a write failed.
 abbrev pub EndsRecord : (number : ℕ) → Event → Writing → (now : Option (List ℕ)) → CutEnding → Type 0
 EndsRecord number event before now ending =
     ((limit < before.draft.size + length (spelled event) + 4)
@@ -153,14 +154,14 @@ EndsRecord number event before now ending =
     ⊎ ((before.draft.size + length (spelled event) + 4 ≤ limit) × (lacking : ℕ) × (ending ≡ WriteFailed lacking)
     × BreaksPut (piece number (spelled event)) (holding before.held before.draft.gathered) now lacking)
 
--- how a stop of the reader ends it, where the next event would have this number
+-- How a stop of the reader ends the cut if the buffer is empty. `number`: the number of the next event.
 abbrev pub EndsAt : (number : ℕ) → Stop → (before now : Option (List ℕ)) → CutEnding → Type 0
 EndsAt number stop before now Done = (stop ≡ End) × (now ≡ appended before spelled_end)
 EndsAt number stop before now (WriteFailed at) = (stop ≡ End) × (at ≡ number) × AppendsPart before now spelled_end
 EndsAt number stop before now (Stopped at told) = (at ≡ number) × (told ≡ stop) × IsNotEnd stop × (now ≡ before)
 EndsAt number stop before now ending = ⊥
 
--- the same, behind what is gathered
+-- the same after a flush of the buffer; or the flush failed
 abbrev pub EndsReading : (number : ℕ) → Stop → Writing → (now : Option (List ℕ)) → CutEnding → Type 0
 EndsReading number stop before now ending =
     ((mid : Option (List ℕ)) × IsWritten before.held mid before.draft.gathered × EndsAt number stop mid now ending)

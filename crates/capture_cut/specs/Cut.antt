@@ -1,4 +1,4 @@
--- A capture that is cut behind its first n events (our own rule).
+-- A capture that is cut after its first n events (our own rule).
 use Rattle.std.specs.Prelude.{◌≡◌, ◌≤◌, ◌<◌, ◌⊎◌, ◌==◌, ℕ, List, [], ◌∷◌, ◌++◌, ◌+◌, Option, Err, length}
 use Rattle.std.specs.Prelude.{if◌then◌else◌}
 use Rattle.dev_io.specs.Device.{prepended, appended, AppendsPart, Rose}
@@ -23,8 +23,8 @@ use Rattle.capture_cut.specs.declared.ending.CutEnding.{CutEnding}
 use Rattle.capture_cut.specs.declared.ending.CutEnding.TheVariants.{Done, PastEnd, Stopped, Faulted, TooLong}
 use Rattle.capture_cut.specs.declared.ending.CutEnding.TheVariants.{WriteFailed}
 
--- how far a capture was read: its version, the bytes taken, the events that were played, the tale that they lead to,
--- and the events behind them
+-- how far a capture was read: its version, the bytes read, the events played, the replay after them, and the later
+-- events, which are not played
 pub record Way : Type 0 where
   pub version : ℕ
   pub taken : List ℕ
@@ -35,44 +35,44 @@ pub record Way : Type 0 where
 abbrev pub events_of : Way → List Event
 events_of way = way.played ++ way.later
 
--- what the bytes taken say
+-- what the bytes read say
 abbrev pub said_of : Way → Said
 said_of way = record { version = way.version; events = events_of way }
 
 -- ---- the reading
 
--- the reader stopped behind the events of the way, and took no byte too many
+-- The reader stopped after the events of the `Way`, and read no byte that it did not need for that.
 pub record StopsBehind (way : Way) (stop : Stop) (left : Option (List ℕ)) : Type 0 where
   pub says : SaysStop capture way.taken (said_of way) stop left
   pub needed : AreNeededToEnd capture (events_of way) way.taken
 
--- the reader took the bytes of these events, and none too many
+-- The bytes read say these events first, and none of them is unnecessary.
 pub record ReadsTo (way : Way) (events : List Event) : Type 0 where
   pub says : SaysFirst capture way.version way.taken events
   pub needed : AreNeeded capture events way.taken
 
 -- ---- the playing
 
--- Events lead from a tale to a tale, whatever events follow.
+-- The events lead from replay `first` to replay `t`, whatever events follow.
 pub record Plays (first : Tale) (events : List Event) (t : Tale) : Type 0 where
   pub replays : (more : List Event) (stop : Stop) (rest : List ℕ)
       → played_events first (events ++ more) stop rest ≡ played_events t more stop rest
   pub counts : t.played ≡ length events
 
--- the rig and the taps are as they are behind a tale
+-- the rig and the taps are as after a replay
 pub record StandsBehind (t : Tale) (before now : List Reading) (rig : RigState) : Type 0 where
   pub rig_is : StandsFor rig t
   pub heard : now ≡ told_notes t.notes before
 
--- at most n events were played, and none is read behind fewer
+-- At most n events were played. Later ones are read only after n were played.
 pub record IsInOrder (n : ℕ) (way : Way) : Type 0 where
   pub most : length way.played ≤ n
   pub first : length way.played < n → way.later ≡ []
 
 -- ---- the endings
 
--- The first n events were played, all others were read, and all is written. The state and the others can be written:
--- its values are within their bounds, and the records of the others are known from version 2 on.
+-- The first n events were played, all others were read, and the whole file was written. The state can be read again:
+-- its values are in their bounds. The records of the later events are valid from version 2 on.
 pub record IsCut (n : ℕ) (way : Way) (before now : Streams) : Type 0 where
   pub all : length way.played ≡ n
   pub stops : StopsBehind way End now.left
@@ -81,35 +81,35 @@ pub record IsCut (n : ℕ) (way : Way) (before now : Streams) : Type 0 where
   pub allowed : AllowsAll 2 way.later
   pub fits : length (cut_file way.tale way.later) ≤ limit
 
--- it ends before n events, at the one of this number, and nothing is written
+-- The cut ends before n events were played, at event `number`, the next one. Nothing was written.
 pub record IsEarly (n : ℕ) (way : Way) (number : ℕ) (before now : Streams) : Type 0 where
   pub number_is : number ≡ length way.played + 1
   pub few : length way.played < n
   pub held : now.held ≡ before.held
 
--- what is due behind the events of a way: nothing before n of them
+-- the output of the events of a `Way`: none before event n
 abbrev pub due_behind : ℕ → Way → List ℕ
 due_behind n way = if length way.played == n then begun way.tale way.later else []
 
--- it ends behind the events that were read, and all that was due stands
+-- The cut ends after the events read, and all their output was written. `number`: the number of the next event.
 pub record IsStopped (n : ℕ) (way : Way) (number : ℕ) (before now : Streams) : Type 0 where
   pub number_is : number ≡ length (events_of way) + 1
   pub held : now.held ≡ appended before.held (due_behind n way)
 
--- the event of this number, behind those that were played, has a fault
+-- Event `number`, the next after those played, has a fault.
 pub record HasFault (way : Way) (number : ℕ) (fault : EventFault) : Type 0 where
   pub event : Event
   pub reads : ReadsTo way (way.played ++ event ∷ [])
   pub fault_is : event_step way.tale.state number event ≡ Err fault
 
--- the last event that was read is not played
+-- `event`, with this number, is the last event read, and is not played. `before`: the later events before it.
 pub record IsLast (n : ℕ) (way : Way) (number : ℕ) (before : List Event) (event : Event) : Type 0 where
   pub all : length way.played ≡ n
   pub number_is : number ≡ length (events_of way)
   pub are : way.later ≡ before ++ event ∷ []
   pub reads : ReadsTo way (events_of way)
 
--- With the record of the last event the file would be too long, and without it it would not. None of it was written.
+-- With the record of the last event the file would be too long; without it, it would not. No byte of it was written.
 pub record IsLong (n : ℕ) (way : Way) (number : ℕ) (before now : Streams) : Type 0 where
   pub earlier : List Event
   pub event : Event
@@ -118,7 +118,7 @@ pub record IsLong (n : ℕ) (way : Way) (number : ℕ) (before now : Streams) : 
   pub fits : length (cut_file way.tale earlier) ≤ limit
   pub long : limit < length (cut_file way.tale way.later)
 
--- a proper part of the head and the state was written, behind event n
+-- a proper prefix of the file header and the state was written, at event n
 pub record LacksState (n : ℕ) (way : Way) (number : ℕ) (before now : Streams) : Type 0 where
   pub all : length way.played ≡ n
   pub number_is : number ≡ n
@@ -126,8 +126,8 @@ pub record LacksState (n : ℕ) (way : Way) (number : ℕ) (before now : Streams
   pub reads : ReadsTo way way.played
   pub held : AppendsPart before.held now.held (snapshot way.tale)
 
--- A proper part of the record of this event was written, behind all that was due before it. The events behind it were
--- read while it was gathered, and few bytes were taken behind it.
+-- A proper prefix of the record of event `number` was written, after all earlier output. Later events may have been
+-- read while the record was buffered. At most 4,112 bytes were read that this event does not need.
 pub record LacksRecord (n : ℕ) (way : Way) (number : ℕ) (before now : Streams) : Type 0 where
   pub all : length way.played ≡ n
   pub earlier : List Event
@@ -140,7 +140,7 @@ pub record LacksRecord (n : ℕ) (way : Way) (number : ℕ) (before now : Stream
   pub held : AppendsPart (appended before.held (begun way.tale earlier)) now.held (spelled event)
   pub fits : length (cut_file way.tale (earlier ++ event ∷ [])) ≤ limit
 
--- a proper part of the End record was written
+-- a proper prefix of the End record was written
 pub record LacksEnd (n : ℕ) (way : Way) (number : ℕ) (before now : Streams) : Type 0 where
   pub all : length way.played ≡ n
   pub number_is : number ≡ length (events_of way) + 1
@@ -157,7 +157,7 @@ SaysEnding n way before now (TooLong number) = IsLong n way number before now
 SaysEnding n way before now (WriteFailed number) =
     LacksState n way number before now ⊎ (LacksRecord n way number before now ⊎ LacksEnd n way number before now)
 
--- where a capture is cut: behind so many events, the first of which follows a tale
+-- how a capture is cut: after `n` events, played from the replay `first` on
 pub record CutAt : Type 0 where
   pub n : ℕ
   pub first : Tale
@@ -165,8 +165,8 @@ pub record CutAt : Type 0 where
 abbrev pub cut_at : (n : ℕ) → Tale → CutAt
 cut_at n first = record { n = n; first = first }
 
--- How cutting a capture ends. The rig and the taps are as they are behind the events played. The store steps are
--- theirs, by both counts, and those of reading the cells once.
+-- How cutting a capture ends. The rig and the taps are as after the events played. The store steps are at most those of
+-- these events, by both bounds, plus one read of all cells.
 pub record EndsCut (at : CutAt) (before now : Streams) (rig : RigState) (ending : CutEnding) : Type 0 where
   pub way : Way
   pub bytes : before.left ≡ prepended way.taken now.left
@@ -179,23 +179,23 @@ pub record EndsCut (at : CutAt) (before now : Streams) (rig : RigState) (ending 
 
 -- ---- causes
 
--- it ended by a fault of the source
+-- the cut ended with a fault of the source
 abbrev pub MayReadFault : CutEnding → Type 0
 MayReadFault (Stopped number (ReadFault byte)) = Unit {0}
 MayReadFault ending = ⊥
 
--- it ended by a fault of the sink
+-- the cut ended with a fault of the sink
 abbrev pub MayWriteFault : CutEnding → Type 0
 MayWriteFault (WriteFailed number) = Unit {0}
 MayWriteFault ending = ⊥
 
--- it never stops with End
+-- `Stopped` never has the stop End
 abbrev pub IsEnding : CutEnding → Type 0
 IsEnding (Stopped number End) = ⊥
 IsEnding ending = Unit {0}
 
--- an ending of what writes alone, by how often the sink failed before and after: no fault of the source, and a fault of
--- the sink only where it failed
+-- An ending of code that only writes. `before`, `now`: how often the sink has failed. It is no fault of the source, and
+-- a fault of the sink only if the sink failed.
 pub record EndsWriting (before now : ℕ) (ending : CutEnding) : Type 0 where
   pub known : IsEnding ending
   pub read : MayReadFault ending → ⊥

@@ -1,5 +1,5 @@
--- What is written of a capture that is cut (our own rule): the state behind its first events, then the records of the
--- others, and an End record.
+-- The file that cutting a capture writes (our own rule): the state after its first events, the records of the others,
+-- and an End record.
 use Rattle.std.specs.Prelude.{ℕ, List, ◌++◌}
 use Rattle.gpu_capture.specs.Whole.{AreWords}
 use Rattle.gpu_capture.specs.Written.{spelled_end}
@@ -11,7 +11,7 @@ use Rattle.snapshot_words.specs.Outline.{snap_bytes, snapshot_head, outline_word
 use Rattle.snapshot_words.specs.declared.outline.Outline.{Outline}
 use Rattle.gpu_capture.specs.Written.{spell}
 
--- a rig but for its memories
+-- a rig without its memories
 abbrev pub outline_of : RigState → Outline
 outline_of rig = record {
   played = rig.played;
@@ -22,28 +22,28 @@ outline_of rig = record {
   run = rig.running;
 }
 
--- the head of a snapshot and the state of a rig; no proof computes them
+-- The file header of a snapshot and the state of a rig. No proof evaluates them.
 unfoldable pub rig_bytes : RigState → List ℕ
 rig_bytes rig = snapshot_head ++ snap_bytes (outline_of rig) rig.gpu.parts.m rig.ram
 
--- The state of a rig is within the bounds, and its values fit their words.
+-- The state of a rig is in its bounds, and its values fit their words.
 pub record IsWritable (rig : RigState) : Type 0 where
   pub outline : IsOutline (outline_of rig)
   pub words : AreWords (outline_words (outline_of rig))
   pub memories : AreMemories (outline_of rig) rig.gpu.parts.m rig.ram
 
--- what a rig keeps that played a tale
+-- the rig after a replay
 abbrev pub rig_of : Tale → RigState
 rig_of t = record { gpu = kept_of t.state.gpu; ram = t.state.ram; running = t.state.running; played = t.played }
 
--- the head and the state behind a tale
+-- the file header and the state after a replay
 abbrev pub snapshot : Tale → List ℕ
 snapshot t = rig_bytes (rig_of t)
 
--- with the records of events behind it, which are not played
+-- the same, then the records of later events, which are not played
 abbrev pub begun : Tale → List Event → List ℕ
 begun t later = snapshot t ++ spell later
 
--- with an End record behind these
+-- the same, then an End record
 abbrev pub cut_file : Tale → List Event → List ℕ
 cut_file t later = begun t later ++ spelled_end

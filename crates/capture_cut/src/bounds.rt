@@ -1,4 +1,4 @@
-// What is written of a rig can be read again.
+// The written state of a rig can be read again.
 ghost use Rattle.std.specs.Prelude.{◌<◌, ◌^◌, ℕ, None, slice_index};
 ghost use Rattle.gp0_words.specs.Next.{IsPending};
 ghost use Rattle.gpu_capture.specs.Whole.{AreWords};
@@ -10,7 +10,8 @@ use crate::state::keep_widths;
 use event_play::Rig;
 use gp0_words::Pending;
 
-/// The state of a rig is within the bounds, and its values fit their words. It does nothing.
+/// Proves that the state of a rig is in its bounds and its values fit their words, if fewer than 2^63 events were
+/// played. Requires cells of 16 bits. Does nothing.
 pub fn keep_bounds(rig: &Rig)
     requires cells { AreCells rig.now.gpu.parts.m }
     ensures { rig.now.played < 2 ^ 63 → IsWritable rig.now }
@@ -24,7 +25,7 @@ pub fn keep_bounds(rig: &Rig)
     let _ = ram.get(0);
 }
 
-// The values of what is pending fit their words; those of an open load are not looked at. It does nothing.
+// Proves that the values of what is pending fit their words, except those of an open load. Does nothing.
 fn keep_pending(pending: &Pending)
     requires { IsPending pending.now }
     ensures { AreWords (pending_words pending.now None) }
@@ -45,7 +46,7 @@ fn keep_pending(pending: &Pending)
     }
 }
 
-// A colour word that has come is a word. It does nothing.
+// Proves that the colour word already received, if any, has 32 bits. Does nothing.
 fn keep_half(half: Option<u32>)
     ensures { AreWords (half_words half) }
 {
@@ -57,7 +58,7 @@ fn keep_half(half: Option<u32>)
     }
 }
 
-// Each word has 32 bits. It does nothing.
+// Proves that each word has 32 bits. Does nothing.
 fn keep_words(words: &[u32])
     ensures { (k : ℕ) → slice_index words.now k < 2 ^ 32 }
 {

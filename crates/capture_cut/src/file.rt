@@ -1,8 +1,7 @@
 // The file that is written.
 use gathered_out::Gathered;
 
-/// How many bytes stand in the file so far or are gathered for it, and those of its records that are gathered and not
-/// written yet.
+/// `size`: length of the file in bytes, including buffered records. `gathered`: the records not yet written.
 #[derive(Drop)]
 pub(crate) struct Draft {
     pub size: u32,

@@ -1,4 +1,4 @@
-// The first events of a capture are played.
+// Plays the first events of a capture.
 ghost use Rattle.std.specs.Prelude.{◌≡◌, ◌≤◌, ℕ, List, Option, Ok, map, IfOk, IfErr, IsOk, OnErr, OnOk};
 ghost use Rattle.dev_io.specs.Device.{Rose};
 ghost use Rattle.gpu_capture.specs.Reader.{IsReadFault};
@@ -18,10 +18,11 @@ use gpu_taps::Listener;
 use std::sync::ledger::Ledger;
 use vram_store::Steps;
 
-/// The version whose captures are played in the tall profile.
+/// Captures of this version are played in the tall profile (1024 rows of video memory).
 const TALL_VERSION: u8 = 3;
 
-/// Plays the first events of a capture. The answer is the reader that stands behind the last of them.
+/// Plays the first `n` events of a capture, at least one, on a rig that has played none. Returns the reader after the
+/// last of them. On a fault or an earlier stop, returns how the cut ends.
 pub(crate) fn play_first<S: Source, T: Listener, L: Ledger>(
     rig: &mut Rig,
     n: u32,
@@ -56,7 +57,7 @@ pub(crate) fn play_first<S: Source, T: Listener, L: Ledger>(
     Ok(reader)
 }
 
-// Takes on the profile in which captures of this version are played.
+// Changes to the tall profile if captures of `version` are played in it.
 fn raise(rig: &mut Rig, version: u8)
     ensures { (t : Tale) → StandsFor rig.old t → StandsFor rig.new (raised t version) }
 {
@@ -65,7 +66,8 @@ fn raise(rig: &mut Rig, version: u8)
     }
 }
 
-// Plays the event that a reader answered, or ends at its stop.
+// Plays the event that the reader returned. If it has a fault or the reader stopped, plays nothing and returns how the
+// cut ends.
 fn play_answer<T: Listener, L: Ledger>(
     rig: &mut Rig,
     answer: Result<Event, Stop>,
@@ -95,7 +97,7 @@ fn play_answer<T: Listener, L: Ledger>(
     }
 }
 
-// How a stop among the first events ends it, where the next event has this number.
+// Returns the ending for a stop before event `n`. `number`: the number of the next event.
 fn stopped(stop: Stop, number: u64) -> CutEnding
     ensures ends { EndsEarly number stop result }
     ensures known { IsEnding result × (MayWriteFault result → ⊥) }

@@ -1,4 +1,4 @@
-//! A capture that is cut behind its first events: the state behind them, and the records of the others.
+//! Cuts a capture after its first events: writes the state after them and the records of the others.
 #![tactic(auto)]
 
 mod bounds;

@@ -1,4 +1,4 @@
-// The two memories of a state, word by word.
+// The two memories of a state as words.
 ghost use Rattle.std.specs.Prelude.{◌≡◌, ◌≤◌, ◌<◌, ◌+◌, ◌*◌, ◌^◌, ℕ, length, take, drop, slice_index, OnOk};
 ghost use Rattle.dev_io.specs.Device.{Writes, side};
 ghost use Rattle.gpu_capture.specs.Written.{word_bytes};
@@ -13,7 +13,8 @@ use ot_clear_dma::{MEMORY_WORDS, Ram};
 use std::sync::ledger::Ledger;
 use vram_store::{Steps, Vram};
 
-/// Writes video memory row by row, two cells a word, the first in the low half: 64 store steps a row.
+/// Writes video memory row by row: two cells (16-bit VRAM halfwords) per word, the first in the low half. Costs 64
+/// store steps per row. On failure, a proper prefix was written.
 pub(crate) fn write_cells<K: Sink, L: Ledger>(
     vram: &Vram,
     out: &mut K,
@@ -30,7 +31,7 @@ pub(crate) fn write_cells<K: Sink, L: Ledger>(
     Ok(())
 }
 
-/// Writes main memory, 512 words to a call of the sink.
+/// Writes main memory, 512 words at a time. On failure, a proper prefix was written.
 pub(crate) fn write_ram<K: Sink>(ram: &Ram, out: &mut K) -> Result<(), Failed>
     ensures { Writes (side K.held K.faults) out.old out.new (bytes_of ram.now) result }
 {
@@ -41,7 +42,7 @@ pub(crate) fn write_ram<K: Sink>(ram: &Ram, out: &mut K) -> Result<(), Failed>
     Ok(())
 }
 
-/// How many bytes the cells have as words.
+/// Returns the size of video memory in bytes.
 pub(crate) fn cells_size(vram: &Vram) -> u32
     ensures value { result ≡ length (bytes_of (cell_words vram.now)) }
     ensures few { result ≤ 2 ^ 21 }
@@ -49,7 +50,7 @@ pub(crate) fn cells_size(vram: &Vram) -> u32
     2048 * u32::from(vram.height())
 }
 
-/// How many bytes main memory has.
+/// Returns the size of main memory in bytes.
 #[tactic(auto, using(gpu_capture::proofs::Written::words_length))]
 pub(crate) fn ram_size(ram: &Ram) -> u32
     ensures value { result ≡ length (bytes_of ram.now) }
@@ -59,7 +60,7 @@ pub(crate) fn ram_size(ram: &Ram) -> u32
     4 * MEMORY_WORDS
 }
 
-// The words of a row of cells.
+// Returns the 1,024 cells of row `y` as words. The row must exist. Costs 64 store steps.
 fn row_words<L: Ledger>(vram: &Vram, y: u16, steps: &mut Steps<L>) -> [u32; 512]
     requires { y < height_of vram.now }
     ensures words { result ≡ cell_words (take 1024 (drop (1024 * y) vram.now)) }
@@ -76,14 +77,14 @@ fn row_words<L: Ledger>(vram: &Vram, y: u16, steps: &mut Steps<L>) -> [u32; 512]
     words
 }
 
-// Each cell has 16 bits. It does nothing.
+// Proves that each cell has 16 bits. Does nothing.
 fn keep_cells(cells: &[u16])
     ensures { (k : ℕ) → slice_index cells.now k < 2 ^ 16 }
 {
     let _ = cells.len();
 }
 
-// Sixteen cells as eight words.
+// Stores sixteen cells in eight words, the first cell of each pair in the low half.
 fn put_lanes(lanes: &[u16; 16], words: &mut [u32])
     requires { length words.old ≡ 8 }
     ensures lanes { words.new ≡ cell_words lanes.now }
@@ -96,7 +97,7 @@ fn put_lanes(lanes: &[u16; 16], words: &mut [u32])
     }
 }
 
-// The 512 words of main memory from one of this number on.
+// Returns 512 words of main memory. `first`: index of the first word. All must exist.
 fn ram_words(ram: &Ram, first: u32) -> [u32; 512]
     requires { first + 512 ≤ memory_words }
     ensures words { result ≡ take 512 (drop first ram.now) }
@@ -109,7 +110,7 @@ fn ram_words(ram: &Ram, first: u32) -> [u32; 512]
     words
 }
 
-// Writes words by one call of the sink, the low byte of each first.
+// Writes 512 words at once, the low byte of each first.
 fn write_words<K: Sink>(out: &mut K, words: &[u32; 512]) -> Result<(), Failed>
     ensures { Writes (side K.held K.faults) out.old out.new (bytes_of words.now) result }
 {
@@ -120,7 +121,7 @@ fn write_words<K: Sink>(out: &mut K, words: &[u32; 512]) -> Result<(), Failed>
     write_all(out, &bytes)
 }
 
-// A word, the low byte first.
+// Stores a word in four bytes, the low byte first.
 #[tactic(auto, unfolding(gpu_capture::specs::Written::word_bytes))]
 fn put_word(word: u32, bytes: &mut [u8])
     requires { length bytes.old ≡ 4 }

@@ -9,7 +9,7 @@ use dev_io::Sink;
 use gathered_out::Gathered;
 use gpu_capture::{Event, record_bytes};
 
-/// The record of an event is known from version 2 on, and its values are words. It does nothing.
+/// Proves that version 2 has a record for this event and that its values are words. Does nothing.
 pub(crate) fn allowed(event: Event)
     requires { IsEvent event }
     ensures { Allows 2 event }
@@ -42,7 +42,7 @@ pub(crate) fn allowed(event: Event)
     }
 }
 
-/// How many bytes the record of an event has.
+/// Returns the length of the record of an event in bytes.
 #[tactic(auto, using(gpu_capture::proofs::Spelled::record_length))]
 pub(crate) fn record_size(event: &Event) -> u32
     ensures value { result ≡ length (spelled event.now) }
@@ -61,7 +61,8 @@ pub(crate) fn record_size(event: &Event) -> u32
     }
 }
 
-/// Puts the bytes of the record of an event.
+/// Adds the record of event `number` to the buffer. If it does not fit, flushes the buffer first. On failure, returns
+/// the number of the first event whose record is incomplete.
 pub(crate) fn put_bytes<K: Sink>(
     number: u64,
     gathered: &mut Gathered,

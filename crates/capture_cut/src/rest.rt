@@ -1,4 +1,4 @@
-// The events behind the first ones are read, and their records written.
+// Reads the events after the first ones and writes their records.
 ghost use Rattle.std.specs.Prelude.{◌≤◌, ◌<◌, ◌+◌, ◌^◌, ℕ, List, IfErr, OnOk};
 ghost use Rattle.dev_io.specs.Device.{Rose};
 ghost use Rattle.gpu_capture.specs.Record.{IsEvent};
@@ -19,12 +19,14 @@ use event_play::write_at_pause;
 use gathered_out::Gathered;
 use gpu_capture::{Event, EventReader, Stop, write_end};
 
-/// A written file has no more bytes.
+/// The maximum length of the file in bytes.
 const LIMIT: u32 = 1 << 30;
 
-/// Reads on behind so many events, and writes their records and an End record behind so many bytes. Records are
-/// gathered, up to 4,096 bytes, and written together: where there is no room for one more, before a read that may have
-/// to wait, and before every ending.
+/// Reads the events after the first `read`, and writes their records and an End record. `size`: length of the file so
+/// far in bytes, at most 2^30 - 4. The reader must not have stopped.
+///
+/// Records are buffered, up to 4,096 bytes. The buffer is flushed if a record does not fit, before a read that may
+/// wait, after 4,096 bytes of input, and before every ending.
 pub(crate) fn write_rest<S: Source, K: Sink>(
     reader: &mut EventReader,
     source: &mut S,
@@ -66,8 +68,8 @@ pub(crate) fn write_rest<S: Source, K: Sink>(
     }
 }
 
-// Puts the record of the event of this number behind the file so far. Where it would be too much, what is gathered is
-// written.
+// Adds the record of event `number` to the file. If the file would be too long with it and an End record, flushes the
+// buffer and returns `TooLong`.
 fn put_record<K: Sink>(
     draft: &mut Draft,
     number: u64,
@@ -98,7 +100,7 @@ fn put_record<K: Sink>(
     }
 }
 
-// Ends at a record that would be too much: what is gathered is written, and that may fail.
+// Ends at a record that would make the file too long. Flushes the buffer first; if that fails, returns `WriteFailed`.
 fn end_too_long<K: Sink>(number: u64, gathered: &mut Gathered, out: &mut K) -> CutEnding
     ensures ends { EndsTooLong number gathered.old (K.held out.old) (K.held out.new) result }
     ensures known { EndsWriting (K.faults out.old) (K.faults out.new) result }
@@ -110,7 +112,7 @@ fn end_too_long<K: Sink>(number: u64, gathered: &mut Gathered, out: &mut K) -> C
     }
 }
 
-// Ends at a stop of the reader, where the next event would have this number: what is gathered is written before.
+// Flushes the buffer, then ends at a stop of the reader. `number`: the number of the next event.
 fn end_reading<K: Sink>(stop: Stop, number: u64, draft: &mut Draft, out: &mut K) -> CutEnding
     ensures ends { EndsReading number stop (writing draft.old (K.held out.old)) (K.held out.new) result }
     ensures known { IsEnding result }
@@ -124,7 +126,7 @@ fn end_reading<K: Sink>(stop: Stop, number: u64, draft: &mut Draft, out: &mut K)
     }
 }
 
-// Ends at a stop of the reader, where the next event would have this number.
+// Ends at a stop of the reader. If it is `End`, writes the End record. `number`: the number of the next event.
 fn finish<K: Sink>(stop: Stop, number: u64, out: &mut K) -> CutEnding
     ensures ends { EndsAt number stop (K.held out.old) (K.held out.new) result }
     ensures known { IsEnding result }

@@ -1,4 +1,4 @@
-// The state of a machine is written.
+// Writes the state of a machine.
 ghost use Rattle.std.specs.Prelude.{◌≡◌, ◌≤◌, ◌<◌, ◌+◌, ◌*◌, ◌^◌, ◌++◌, length, OnOk};
 ghost use Rattle.dev_io.specs.Device.{Writes, side};
 ghost use Rattle.gp0_words.specs.Next.{IsPending};
@@ -19,7 +19,8 @@ use std::sync::ledger::Ledger;
 use vram_copy::Transfer;
 use vram_store::Steps;
 
-/// Writes the head of a snapshot, and the state of a rig. After a failure a proper part of them was written.
+/// Writes the file header of a snapshot and the state of a rig. On failure, a proper prefix was written. Costs at most
+/// 64 store steps per row of video memory.
 pub fn write_state<K: Sink, L: Ledger>(
     rig: &Rig,
     out: &mut K,
@@ -33,7 +34,7 @@ pub fn write_state<K: Sink, L: Ledger>(
     write_memories(rig, out, steps)
 }
 
-/// How many bytes the head and the state have.
+/// Returns the length of the file header and the state in bytes.
 pub fn state_size(rig: &Rig) -> u32
     ensures value { result ≡ length (rig_bytes rig.now) }
     ensures few { result ≤ 2 ^ 23 }
@@ -41,7 +42,7 @@ pub fn state_size(rig: &Rig) -> u32
     front_size(&outline_of(rig)) + cells_size(rig.gpu().vram()) + ram_size(rig.ram())
 }
 
-// Writes the head, and a state but for its memories.
+// Writes the file header and the state without its memories.
 fn write_front<K: Sink>(outline: &Outline, out: &mut K) -> Result<(), Failed>
     requires { IsPending outline.now.pending }
     ensures { Writes (side K.held K.faults) out.old out.new
@@ -51,7 +52,7 @@ fn write_front<K: Sink>(outline: &Outline, out: &mut K) -> Result<(), Failed>
     write_outline(out, outline)
 }
 
-// Writes the cells of video memory and the words of main memory.
+// Writes the cells of video memory, then the words of main memory.
 fn write_memories<K: Sink, L: Ledger>(
     rig: &Rig,
     out: &mut K,
@@ -66,7 +67,7 @@ fn write_memories<K: Sink, L: Ledger>(
     write_ram(rig.ram(), out)
 }
 
-// The state of a rig but for its memories.
+// Returns the state of a rig without its memories.
 fn outline_of(rig: &Rig) -> Outline
     ensures value { result ≡ outline_of rig.now }
     ensures pending { IsPending result.pending }
@@ -82,7 +83,7 @@ fn outline_of(rig: &Rig) -> Outline
     }
 }
 
-// The same registers.
+// Returns a copy of the registers.
 fn copied(regs: &Regs) -> Regs
     ensures { result ≡ regs.now }
 {
@@ -93,7 +94,7 @@ fn copied(regs: &Regs) -> Regs
     }
 }
 
-/// Each register is as wide as it is. It does nothing.
+/// Proves that each register fits its number of bits. Does nothing.
 pub(crate) fn keep_widths(regs: &Regs)
     ensures widths { KeepsWidths regs.now }
     ensures latch { regs.now.held < 2 ^ 32 }
@@ -104,7 +105,7 @@ pub(crate) fn keep_widths(regs: &Regs)
     let _ = (regs.vrange(), regs.mode(), regs.held());
 }
 
-// How many bytes the head and a state but for its memories have.
+// Returns the length of the file header and of a state without its memories, in bytes.
 #[tactic(auto, using(gpu_capture::proofs::Written::words_length))]
 fn front_size(outline: &Outline) -> u32
     requires { IsPending outline.now.pending }
@@ -114,7 +115,7 @@ fn front_size(outline: &Outline) -> u32
     8 + 4 * outline_len(outline)
 }
 
-// How many words a state but for its memories has.
+// Returns the length of a state without its memories, in words.
 #[tactic(auto, unfolding(snapshot_words::specs::Outline::outline_words))]
 fn outline_len(outline: &Outline) -> u32
     requires { IsPending outline.now.pending }
@@ -142,7 +143,7 @@ fn pending_len(pending: &Pending, load: &Option<Transfer>) -> u32
     }
 }
 
-// An open transfer has five words.
+// Returns the number of words of an open load, or 0 if none is open.
 fn job_len(job: &Option<Transfer>) -> u32
     ensures value { result ≡ length (load_words job.now) }
     ensures few { result ≤ 5 }

@@ -1,4 +1,4 @@
-// A whole capture is cut.
+// Cuts a whole capture.
 ghost use Rattle.std.specs.Prelude.{◌≡◌, ◌≤◌, map};
 ghost use Rattle.dev_io.specs.Device.{Rose};
 ghost use Rattle.event_play.specs.Replay.{from_state};
@@ -18,16 +18,17 @@ use gpu_taps::Listener;
 use std::sync::ledger::Ledger;
 use vram_store::Steps;
 
-/// Plays the first `n` events of a capture on a new rig, and writes a snapshot: the state behind them, and the records
-/// of the other events, which it does not play, with an End record. It takes no memory.
+/// Plays the first `n` events of a capture, at least one, on a rig that has played none. Writes a snapshot: the file
+/// header, the state after these events, the records of the later events, and an End record. Later events are not
+/// played. Allocates no memory.
 ///
-/// The head and the state are due at event `n`, the record of each later event at that event. Records are gathered, up
-/// to 4,096 bytes, and written together: where there is no room for one more, before a read that may have to wait, and
-/// before every ending. So a write that fails may show at a later event, and is still that of the first record that
-/// lacks a byte; at most 4,112 bytes are taken behind its event.
+/// The header and the state are the output of event `n`; each later record is the output of its event. Records are
+/// buffered, up to 4,096 bytes. The buffer is flushed if a record does not fit, before a read that may wait, after
+/// 4,096 bytes of input, and before every ending.
 ///
-/// After every ending all that was due before it stands, and no byte was taken past what that ending needs, unless it
-/// is the failed write of a record. The rig and the taps are as they are after the events that were played.
+/// A write may fail while a later event is processed. The error still names the event of the first incomplete record.
+/// By then, at most 4,112 bytes after that event were read. Before any other ending, all earlier output was written,
+/// and no byte was read that the ending does not need. The rig and the taps are as after the events that were played.
 pub fn cut<S: Source, K: Sink, T: Listener, L: Ledger>(
     rig: &mut Rig,
     n: u32,
@@ -38,7 +39,7 @@ pub fn cut<S: Source, K: Sink, T: Listener, L: Ledger>(
 ) -> CutEnding
     requires unplayed { rig.old.played ≡ 0 }
     requires some { 1 ≤ n }
-    // For every state for which the rig stood, this is how cutting the capture from it ends.
+    // For every machine that agrees with the rig, cutting the capture from it ends like this.
     ensures ends { (s : Machine) → Stands rig.old s → EndsCut (cut_at n (from_state s 0))
         (streams (S.left source.old) (K.held out.old) (map T.heard taps.old.items) steps.old)
         (streams (S.left source.new) (K.held out.new) (map T.heard taps.new.items) steps.new) rig.new result }

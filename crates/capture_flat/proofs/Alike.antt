@@ -1,4 +1,4 @@
--- Flat events do at the ports what the events do that they were made of.
+-- Flat events have the same effect at the ports as the events that they were made from.
 use Rattle.std.proofs.Common.{◌≡◌, ◌++◌, ℕ, zero, suc, List, [], ◌∷◌, map, flat_map, replicate, Option, None, Some}
 use Rattle.std.proofs.Common.{Result, Ok, Err, option_to_list, if◌then◌else◌}
 use Rattle.std.proofs.Common.{refl, ap, sym, subst, ◌∙◌, append_assoc, append-nil}
@@ -33,13 +33,13 @@ use Rattle.capture_flat.specs.Film.{bare_frame, unnumbered, bare_stroke, ShowAli
 use Rattle.capture_flat.specs.Flat.{flat_events, flat_replay, flat_work, flat_asked, then_flat}
 use Rattle.capture_flat.proofs.Controls.{frames_of, frames_are}
 
--- a list of events, and nothing more
+-- the replay of a list of events that ends with End
 abbrev whole : Tale → List Event → Played
 whole t events = played_events t events End []
 
--- ---- what is seen of a replay
+-- ---- the visible results of a replay
 
--- the shown words, and the frames and strokes without the numbers of their events
+-- the shown words, and the frames and changes without the numbers of their events
 record Seen : Type 0 where
   shown : List ℕ
   frames : List (ℕ × Parts)
@@ -62,7 +62,7 @@ seen_more seen shown frames strokes = record {
 more_none : (seen : Seen) → seen_more seen [] [] [] ≡ seen
 more_none seen = rw (append-nil seen.shown, append-nil seen.frames, append-nil seen.strokes) refl
 
--- with strokes, and then with others
+-- some changes added, then others
 more_strokes : (seen : Seen) (xs ys : List Stroke)
     → seen_more (seen_more seen [] [] xs) [] [] ys ≡ seen_more seen [] [] (xs ++ ys)
 more_strokes seen xs ys = rw (
@@ -73,11 +73,11 @@ more_strokes seen xs ys = rw (
   append_assoc seen.strokes xs ys,
 ) refl
 
--- what a work adds to it
+-- the changes of these words, without event numbers
 abbrev strokes_of : State → List ℕ → List Stroke
 strokes_of s words = map bare_stroke (fed_strokes s 0 words)
 
--- the number of an event does not matter to notes and strokes without it
+-- Without its event number, a note or a change does not depend on that number.
 note_bare : (s : State) (n : ℕ) (item : _)
     → unnumbered (noted s.parts.regs n item) ≡ unnumbered (noted s.parts.regs 0 item)
 note_bare s n None = refl
@@ -95,9 +95,9 @@ strokes_bare s n (word ∷ words) =
     ap (λ stroke. stroke ∷ map bare_stroke (fed_strokes (after_gp0 s word) n words)) (stroke_bare s n word)
     ∙ ap (λ strokes. bare_stroke (stroke_of s 0 word) ∷ strokes) (strokes_bare (after_gp0 s word) n words)
 
--- ---- events that lead somewhere
+-- ---- events that lead to a state
 
--- these events have no fault, and lead to a state of the drawing processor and to what is seen, whatever follows them
+-- These events have no fault. They lead to the GPU state `gpu` and the visible results `seen`, whatever events follow.
 record Leads (t : Tale) (events : List Event) (gpu : State) (seen : Seen) : Type 0 where
   tale : Tale
   says : (more : List Event) → whole t (events ++ more) ≡ whole tale more
@@ -107,7 +107,7 @@ record Leads (t : Tale) (events : List Event) (gpu : State) (seen : Seen) : Type
 leads_none : (t : Tale) → Leads t [] t.state.gpu (seen_of t)
 leads_none t = record { tale = t; says = λ more. refl; gpu_is = refl; seen_is = refl }
 
--- what is seen with one event more
+-- the visible results with one more event
 seen_on : (t : Tale) (given : Event) (machine : Machine) (shown : Option ℕ) (notes : List Note)
     → seen_of (tale_on t given machine shown notes) ≡ seen_more (seen_of t) (option_to_list shown)
     (map bare_frame (frames_behind given (next_number t.played) machine.gpu.parts))
@@ -117,14 +117,14 @@ seen_on t given machine shown notes = rw (
   map-append bare_stroke t.strokes (event_strokes t.state (next_number t.played) given),
 ) refl
 
--- the replay goes on behind an event
+-- the replay continues after an event without a fault
 goes_on : (t next : Tale) (given : Event) (events : List Event) → after_event t given ≡ Ok next
     → whole t (given ∷ events) ≡ whole next events
 goes_on t next given events is =
     ap (λ r. go_on r (λ next. whole next events)
     (λ fault. record { tale = t; ending = Faulted (next_number t.played) fault; rest = [] })) is
 
--- one event that is a work
+-- one event, by its operation
 leads_one : (t : Tale) (given : Event) (asked : Work) → work_of t.state.ram t.state.running given ≡ Ok asked
     → let did = done t.state (next_number t.played) asked in Leads t (given ∷ []) did.machine.gpu
     (seen_more (seen_of t) (option_to_list did.shown)
@@ -143,14 +143,14 @@ leads_one t given asked is =
       seen_is = seen_on t given did.machine did.shown did.notes;
     }
 
--- the same, said of values that agree with it
+-- the same for equal values
 leads_as : (t : Tale) (events : List Event) (gpu other : State) (seen others : Seen) → Leads t events gpu seen
     → gpu ≡ other → seen ≡ others
     → Leads t events other others
 leads_as t events gpu other seen others leads same alike =
     record { tale = leads.tale; says = leads.says; gpu_is = leads.gpu_is ∙ same; seen_is = leads.seen_is ∙ alike }
 
--- events, and then others
+-- two lists of events, one after the other
 leads_on : (t : Tale) (xs ys : List Event) (gpu other : State) (seen others : Seen)
     → (first : Leads t xs gpu seen) → Leads first.tale ys other others
     → Leads t (xs ++ ys) other others
@@ -181,7 +181,7 @@ leads_words t (word ∷ words) =
     (one.seen_is ∙ ap (seen_more (seen_of t) [] []) (strokes_bare t.state.gpu (next_number t.played) (word ∷ [])))
     ∙ more_strokes (seen_of t) first (strokes_of behind words))
 
--- reads, one after another
+-- n reads
 abbrev reads : ℕ → State → State
 reads n s = each_below (λ i s. after_read s) n s
 
@@ -200,21 +200,21 @@ leads_skips t (suc n) =
     (leads_on t (event.Skip ∷ []) (replicate n event.Skip) _ (reads n one.tale.state.gpu) _ (seen_of one.tale) one rest)
     (ap (reads n) one.gpu_is ∙ reads_first n t.state.gpu) (one.seen_is ∙ more_none (seen_of t))
 
--- the drawing processor after reads whose words go to main memory
+-- the GPU after reads whose words go to main memory
 reads_taken : (block : Block) (n : ℕ) (s : State) (ram : List ℕ) → (first_taken block n s ram).gpu ≡ reads n s
 reads_taken block zero s ram = refl
 reads_taken block (suc n) s ram = ap after_read (reads_taken block n s ram)
 
 -- ---- one event
 
--- what is seen with a work more
+-- the visible results with one more operation
 abbrev work_seen : Seen → Machine → (number : ℕ) → Work → Seen
 work_seen seen s number asked =
     let did = done s number asked in
     seen_more seen (option_to_list did.shown) (frames_of asked did.machine.gpu.parts)
     (strokes_of s.gpu (asked_words s.ram (Ok asked)))
 
--- The flat events of a work do at the ports what the work does, from every tale with the same drawing processor.
+-- The flat events of an operation have its effect at the ports, from every replay with the same GPU state.
 leads_work : (u : Tale) (s : Machine) (number : ℕ) (asked : Work) → u.state.gpu ≡ s.gpu
     → Leads u (flat_work s.ram asked) (done s number asked).machine.gpu (work_seen (seen_of u) s number asked)
 leads_work u s number work.Nothing same = leads_as u [] _ _ _ _ (leads_none u) same (sym (more_none (seen_of u)))
@@ -244,16 +244,16 @@ leads_work u s number (work.Begin next) same = leads_as u [] _ _ _ _ (leads_none
 
 -- ---- all events
 
--- two tales with the same drawing processor of which the same was seen
+-- two replays with the same GPU state and the same visible results
 record AreSame (u t : Tale) : Type 0 where
   gpu : u.state.gpu ≡ t.state.gpu
   seen : seen_of u ≡ seen_of t
 
--- what is claimed of events and of flat ones
+-- the claim about events and their flat events
 abbrev Alike : Tale → List Event → Tale → List Event → Type 0
 Alike u flat t events = ((whole u flat).ending ≡ Done) × AreSame (whole u flat).tale (whole t events).tale
 
--- one event of the list, by what it asks for
+-- the first event of the list, by its operation or its fault
 alike_on : (u t : Tale) (given : Event) (events : List Event) (asked : Result Work EventFault)
     → work_of t.state.ram t.state.running given ≡ asked → AreSame u t → (whole t (given ∷ events)).ending ≡ Done
     → ((v next : Tale) → AreSame v next → (whole next events).ending ≡ Done
@@ -324,7 +324,7 @@ flat_alike t events fine =
 
 -- ---- the film
 
--- the pictures of frames, by what is seen of them
+-- the picture of a frame without its event number
 abbrev picture_of_bare : Moment → ℕ × Parts → List ℕ
 picture_of_bare at frame = if is_moment at frame.0 then frame_bytes frame.1 else []
 
@@ -333,7 +333,7 @@ pictures_bare : (at : Moment) (frames : List Frame)
 pictures_bare at [] = refl
 pictures_bare at (frame ∷ frames) = ap (λ xs. picture_at at frame ++ xs) (pictures_bare at frames)
 
--- what is written of a whole replay as a film
+-- the output of a whole replay in the mode `Frames`
 film_of : (at : Moment) (heard : List Reading) (r : Played) → r.ending ≡ Done
     → out_bytes (Frames at) heard r
     ≡ flat_map (picture_of_bare at) (map bare_frame r.tale.frames)

@@ -1,4 +1,4 @@
--- Flat events can be written.
+-- Flat events are valid in version 2.
 use Rattle.std.proofs.Common.{◌<◌, ◌≤◌, ◌+◌, ◌++◌, ◌^◌, ℕ, zero, suc, List, [], ◌∷◌, map, replicate, flat_map, arith}
 use Rattle.std.proofs.Common.{slice_index}
 use Rattle.gpu_capture.specs.Written.{Allows, AllowsAll}
@@ -10,7 +10,7 @@ use Rattle.list_dma.specs.Walk.{list_words, walk_of}
 use Rattle.event_play.specs.Block.{first_words, block_words, address_in}
 use Rattle.event_play.specs.declared.block.Block.{Block}
 
--- all of them are words
+-- each has 32 bits
 abbrev AreWords : List ℕ → Type 0
 AreWords [] = Unit {0}
 AreWords (word ∷ words) = (word < 2 ^ 32) × AreWords words

@@ -1,4 +1,4 @@
--- Words that were read, played and put at once, an event each.
+-- Words that were read, played and written as one block, one event per word.
 use Rattle.std.proofs.Common.{◌≡◌, ◌≤◌, ◌<◌, ◌+◌, ◌*◌, ◌++◌, inr, ℕ, List, [], ◌∷◌, Option, Result, Ok, Err, OnOk}
 use Rattle.std.proofs.Common.{IfErr}
 use Rattle.std.proofs.Common.{◌^◌, None, length, refl, ap, sym, subst, ◌∙◌, append_assoc, append-nil, arith}
@@ -43,7 +43,7 @@ use Rattle.capture_flat.proofs.PlayedWords.{more_cost, more_notes, same_played, 
 use Rattle.capture_flat.proofs.PlayedWords.{words_gathered, words_length, words_small}
 use Rattle.capture_flat.proofs.Stopping.{reading_ends}
 
--- how many words were taken, whether or not the reader stopped behind them
+-- the number of words read, whether or not the reader stopped after them
 pub words_count : {Value : Type 0} (p q : Progress) (left after : Option (List ℕ)) (words : List ℕ)
     (read : Result Value Stop) → OnOk read (TakesWords (standing p left) (standing q after) words)
     → IfErr read (λ stop. StopsBehind (standing p left) (standing q after) words stop)
@@ -51,12 +51,12 @@ pub words_count : {Value : Type 0} (p q : Progress) (left after : Option (List �
 words_count p q left after words (Ok v) takes behind = takes.place
 words_count p q left after words (Err stop) takes behind = behind.takes.place
 
--- none is one too many of no bytes
+-- Of no bytes, none is unnecessary.
 none_needed : (p : Progress) → ReaderNeeds p []
 none_needed p [] more is some = absurd (some (sym is))
 none_needed p (x ∷ part) more is some = absurd cc
 
--- what is gathered behind some events could not be written
+-- the buffer after some events could not be flushed
 pub passes_off : (start : Tale) (version : ℕ) (before now : Streams) (rig : RigState) (p : Progress) (draft : Draft)
     (since : ℕ) → Passes (raised start version) version before now rig p draft since → p.place < since + 4096
     → 1 ≤ p.version → version ≡ p.version → (held : Option (List ℕ)) (lacking : ℕ)
@@ -80,7 +80,7 @@ passes_off start version before now rig p draft since was near known same held l
     (rw (append-nil was.taken) at few) was.stands was.heard was.cost
     (spent_within before.steps now.steps was.tale.cost was.tale.box_cost was.cost was.small)
 
--- what was gathered may be out
+-- Pieces counted as buffered were added, and some of them may be flushed.
 pub pieces_out : (first : Tale) (version : ℕ) (before : Streams) (left held now : Option (List ℕ))
     (heard : List Reading) (steps : ℕ) (rig : RigState) (p : Progress) (file : FlatFile)
     (gathered pieces new : List Piece) (since : ℕ)
@@ -118,16 +118,17 @@ pieces_out first version before left held now heard steps rig p file gathered pi
   small = was.small;
 }
 
--- ---- behind an event, and behind the words that were taken at once, if some were
+-- ---- after an event, and after a block of words if one was read
 
--- playing goes on so
+-- the state at the end of a loop pass
 pub record GoesOn (start : Tale) (version : ℕ) (before now : Streams) (rig : RigState) (progress : Progress)
     (draft : Draft) (since : ℕ) : Type 0 where
   pub paused : Paused (raised start version) version before now rig progress draft since
   pub same : version ≡ progress.version
   pub known : 1 ≤ progress.version
 
--- the reader, the draft, the source and the sink are so, by the counts of faults
+-- What else a loop pass keeps. The reader has not stopped, and its remaining steps do not grow. An End record fits. The
+-- version is the same, and the counts of faults do not fall.
 pub record Keeps (version work : ℕ) (read_before read_now write_before write_now : ℕ) (reader : ReaderState)
     (draft : Draft) : Type 0 where
   pub running : reader.stop ≡ None
@@ -137,7 +138,7 @@ pub record Keeps (version work : ℕ) (read_before read_now write_before write_n
   pub read_faults : read_before ≤ read_now
   pub write_faults : write_before ≤ write_now
 
--- an event was played and put, and then was a pause
+-- An event was played and its records added. Then the buffer was flushed if the reader pauses.
 pub event_goes : (start : Tale) (version : ℕ) (before : Streams) (left_mid left : Option (List ℕ)) (mid now : Outlets)
     (was_rig rig : RigState) (old new : Progress) (draft : Draft) (since : ℕ)
     (was : Passes (raised start version) version before (beside left_mid mid) was_rig old draft since)
@@ -157,7 +158,7 @@ event_goes start version before left_mid left mid now was_rig rig old new draft 
       known = known;
     }
 
--- ---- words that were taken and played: as if all their records were gathered yet
+-- ---- words that were read and played, as if all their records were still buffered
 
 module _ (start : Tale) (version : ℕ) (before : Streams) (left held : Option (List ℕ))
     (heard heard_now : List Reading) (steps steps_now : ℕ) (was_rig rig : RigState) (p q : Progress) (draft : Draft)
@@ -177,14 +178,14 @@ module _ (start : Tale) (version : ℕ) (before : Streams) (left held : Option (
   abbrev events : List Event
   events = was.events ++ word_events words
 
-  -- the draft, with their records gathered
+  -- the draft with the records of the words buffered
   abbrev gathering : Draft
   gathering = record {
     file = longer draft.file (8 * length words);
     gathered = draft.gathered ++ record_pieces was_rig.played words;
   }
 
-  -- what the bytes say, by any machine
+  -- what the bytes give to play, from the replay `first` on
   abbrev script : List ℕ → Script
   script bytes = record { first = first; captured = capture bytes }
 
@@ -216,7 +217,7 @@ module _ (start : Tale) (version : ℕ) (before : Streams) (left held : Option (
   counted : 1 ≤ was.tale.played
   counted = let e = was.stands.played in omega (arith, e, some)
 
-  -- the rig and the taps, by the tale before them
+  -- the rig and the taps after the words, from the replay before them
   told : Tells (after_words (from_state was.tale.state was.tale.played) words) (without_sink heard steps)
       (without_sink heard_now steps_now) rig
   told = rw was.stands.played (tells was.tale.state was.stands.state)
@@ -268,14 +269,14 @@ module _ (start : Tale) (version : ℕ) (before : Streams) (left held : Option (
         small = words_small was.tale words was.small;
       }
 
-  -- ---- their records are put
+  -- ---- their records are added
 
   module _ (is : Draft) (now : Option (List ℕ)) (file : is.file ≡ longer draft.file (8 * length words)) where
     abbrev Puts : {Value : Type 0} → Result Value ℕ → Type 0
     Puts result = PutsPieces (record_pieces was_rig.played words) (holding held draft.gathered)
         (holding now is.gathered) result
 
-    -- all of them were
+    -- all of them were added
     pub words_went : {Value : Type 0} (after : Option (List ℕ)) (v : Value) → Puts {Value = Value} (Ok v)
         → TakesWords (standing p left) (standing q after) words
         → Passes first version before (streams after now heard_now steps_now) rig q is since
@@ -287,7 +288,7 @@ module _ (start : Tale) (version : ℕ) (before : Streams) (left held : Option (
         (longer draft.file (8 * length words)) draft.gathered (record_pieces was_rig.played words) is.gathered since
         (words_play after takes) puts.ok)
 
-    -- and then was a pause
+    -- All were added. Then the buffer was flushed if the reader pauses.
     pub words_go : {Value : Type 0} (after : Option (List ℕ)) (v : Value) → Puts {Value = Value} (Ok v)
         → TakesWords (standing p left) (standing q after) words
         → (last : Draft) (at : ℕ) (written : Option (List ℕ)) → last.file ≡ is.file
@@ -300,7 +301,7 @@ module _ (start : Tale) (version : ℕ) (before : Streams) (left held : Option (
       known = known;
     }
 
-    -- one could not be put, whether or not the reader stopped behind them
+    -- A record could not be written, whether or not the reader stopped after the words.
     pub words_fail : {Value Got : Type 0} (after : Option (List ℕ)) (lacking : ℕ) (read : Result Got Stop)
         → Puts {Value = Value} (Err lacking) → OnOk read (TakesWords (standing p left) (standing q after) words)
         → IfErr read (λ stop. StopsBehind (standing p left) (standing q after) words stop)

@@ -1,4 +1,4 @@
--- How far flattening a capture has come, where the reader has answered an event that is not played yet, or a stop.
+-- The state of flattening a capture after the reader has returned an event, not played yet, or a stop.
 use Rattle.std.proofs.Common.{◌≡◌, ◌≤◌, ◌<◌, ◌+◌, inl, inr, ℕ, List, [], ◌∷◌, Option, Result, Ok, Err, OnOk, IfOk}
 use Rattle.std.proofs.Common.{IfErr, refl, ap, sym, subst, ◌∙◌, append-nil, length, arith}
 use Rattle.dev_io.specs.Device.{appended}
@@ -35,7 +35,7 @@ pub record Awaits (start : Tale) (version : ℕ) (before now : Streams) (rig : R
   pub same : version ≡ new.version
   pub answer : Answers old new left now.left next
 
--- the answer, once it is known
+-- what the reader returned, in each case
 pub takes_is : (old new : Progress) (before now : Option (List ℕ)) (next : Result Event Stop) (event : Event)
     → next ≡ Ok event
     → Answers old new before now next → Answers old new before now (Ok event)
@@ -100,7 +100,7 @@ starts s left left_now held heard steps rig first new version draft next is file
       answer = answers first new left left_now next takes known stops;
     }
 
--- ---- the next answer
+-- ---- what the reader returns next
 
 pub reads : (start : Tale) (version : ℕ) (before now : Streams) (rig : RigState) (old new : Progress) (draft : Draft)
     (since : ℕ) (left : Option (List ℕ))
@@ -130,7 +130,7 @@ reads start version before now rig old new draft since left (Err stop) was near 
 
 -- ---- a pause
 
--- it goes on where all was written, or where few bytes were taken since
+-- before the next read: the reader is less than 4,096 bytes after the last flush
 pub record Paused (first : Tale) (version : ℕ) (before now : Streams) (rig : RigState) (progress : Progress)
     (draft : Draft) (since : ℕ) : Type 0 where
   pub passes : Passes first version before now rig progress draft since
@@ -182,7 +182,7 @@ paused_on first version before now rig progress draft since at new held known wa
       near = omega (arith, e);
     }
 
--- the same, of the file that stands there
+-- the same for another draft of the same file
 pub pauses_on : (first : Tale) (version : ℕ) (before now : Streams) (rig : RigState) (progress : Progress)
     (draft is : Draft) (since at : ℕ) (held : Option (List ℕ)) → 1 ≤ progress.version → is.file ≡ draft.file
     → Passes first version before now rig progress draft since

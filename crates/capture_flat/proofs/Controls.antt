@@ -1,4 +1,4 @@
--- An event writes GP1 exactly where it asks for that.
+-- An event writes GP1 exactly if its operation is a GP1 write.
 use Rattle.std.proofs.Common.{◌≡◌, ℕ, ◌==◌, ◌^◌, ◌%◌, Bool, true, false, List, [], ◌∷◌, map, if◌then◌else◌}
 use Rattle.std.proofs.Common.{Option, None, Some, Result, Ok, Err, refl, ap, ◌∙◌}
 use Rattle.gpu_capture.specs.declared.event.Event.{Event}
@@ -19,7 +19,7 @@ use Rattle.event_play.specs.declared.work.Work.{Work}
 use Rattle.event_play.specs.declared.work.Work.TheVariants as work
 use Rattle.capture_flat.specs.Film.{bare_frame}
 
--- what a work adds to what is seen of the frames
+-- the frames that an operation adds, without event numbers
 abbrev pub frames_of : Work → Parts → List (ℕ × Parts)
 frames_of (work.Control word) parts = (word, parts) ∷ []
 frames_of other parts = []
@@ -79,7 +79,7 @@ module _ (parts : Parts) where
   frames_by ram running (event.Begin madr bcr chcr) n = none_begun (begun madr bcr chcr (plan_of bcr chcr))
   frames_by ram running event.Turn n = none_turned ram running
 
--- what is seen of the frames behind an event, by what it asks for
+-- the frames of an event, without event numbers, by its operation
 pub frames_are : (ram : List ℕ) (running : Run) (given : Event) (asked : Work) (n : ℕ) (parts : Parts)
     → work_of ram running given ≡ Ok asked
     → map bare_frame (frames_behind given n parts) ≡ frames_of asked parts

@@ -1,4 +1,4 @@
--- How many words and bytes there are.
+-- Numbers of words and bytes.
 use Rattle.std.proofs.Common.{◌≡◌, ◌+◌, ◌*◌, ℕ, zero, suc, List, [], ◌∷◌, length, replicate, refl, length-append, arith}
 use Rattle.list_dma.specs.Node.{words_behind, node_words, word_count}
 use Rattle.ot_clear_dma.specs.Ram.{word_at}

@@ -44,8 +44,8 @@ use Rattle.capture_flat.proofs.Output.{begun_on, written_length, written_fits}
 use Rattle.event_play.specs.Setting.{setting}
 use Rattle.event_play.proofs.Behind.{IsReading, few_behind}
 
--- So many events were read and played, and their records were put. All was last written where the reader stood at this
--- place.
+-- These events were read and played, and their records written or buffered. `since`: offset of the reader at the last
+-- flush.
 pub record Passes (first : Tale) (version : ℕ) (before now : Streams) (rig : RigState) (progress : Progress)
     (draft : Draft) (since : ℕ) : Type 0 where
   pub taken : List ℕ
@@ -102,7 +102,7 @@ pub all_flat : (first tale : Tale) (events flat : List Event) → Follows first 
 all_flat first tale events flat follows =
     ap (flat_replay first) (sym (append-nil events)) ∙ follows.flats [] ∙ append-nil flat
 
--- the whole file of the events so far is not too long
+-- The whole file of the events so far is not too long.
 pub file_fits : (first : Tale) (version : ℕ) (before now : Streams) (rig : RigState) (progress : Progress)
     (draft : Draft) (since : ℕ) (was : Passes first version before now rig progress draft since)
     → length (flat_file first version was.events) ≤ limit
@@ -128,7 +128,7 @@ split_events xs ys c =
     ap (λ (all : List Event). record { version = c.version; events = all; ending = c.ending; rest = c.rest })
     (append_assoc xs ys c.events)
 
--- ---- one event more
+-- ---- one more event
 
 module _ (start : Tale) (version : ℕ) (before : Streams) (left_mid left : Option (List ℕ)) (mid now : Outlets)
     (was_rig rig : RigState) (old new : Progress) (draft : Draft) (since : ℕ)
@@ -140,14 +140,14 @@ module _ (start : Tale) (version : ℕ) (before : Streams) (left_mid left : Opti
   abbrev first : Tale
   first = raised start version
 
-  -- the tale with that event
+  -- the replay with that event
   abbrev next : PlaysFlat was.tale given mid now rig → Tale
   next plays = tale_on was.tale given plays.step.machine plays.shown plays.step.notes
 
   abbrev taken : List ℕ
   taken = was.taken ++ takes.taken
 
-  -- how far it came before the event, and with it
+  -- the `Way` before the event, and with it
   abbrev way_before : Way
   way_before = record { version = version; taken = taken; events = was.events; flat = was.flat; tale = was.tale }
 
@@ -201,7 +201,7 @@ module _ (start : Tale) (version : ℕ) (before : Streams) (left_mid left : Opti
   needs : AreNeeded capture (was.events ++ given ∷ []) taken
   needs = needed_on old was.events given was.taken takes.taken was.says was.needed takes.needed
 
-  -- what stands behind the event
+  -- the output up to and including the event
   after_it : begun version (next_number was.tale.played) (was.flat ++ flat_events was.tale.state given)
       ≡ begun version was.tale.played was.flat ++ due_at version was.tale given
   after_it = begun_on version was.tale.played was.flat (flat_events was.tale.state given) was.follows.fresh
@@ -221,11 +221,11 @@ module _ (start : Tale) (version : ℕ) (before : Streams) (left_mid left : Opti
       ≡ draft.file.size + length due + 4 = omega (arith, a, b, d, size_is) in
       rw all sum
 
-  -- what is due by the version of the file
+  -- the output of the event, by the version in the draft
   due_same : due_at draft.file.version was.tale given ≡ due_at version was.tale given
   due_same = ap (λ (v : ℕ). due_at v was.tale given) was.version_is
 
-  -- what may be said of each event, with this one
+  -- what is known of each buffered record, with this event read
   more_due : (events : List Event) → events ≡ was.events ++ given ∷ [] → (number : ℕ) (before due : List ℕ)
       → WasDue first version was.events was.flushed was.taken number before due
       → WasDue first version events was.flushed taken number before due
@@ -304,9 +304,9 @@ module _ (start : Tale) (version : ℕ) (before : Streams) (left_mid left : Opti
         small = small;
       }
 
-  -- ---- an event that ends it
+  -- ---- an event that ends flattening
 
-  -- a failed write, behind this event
+  -- a failed write after this event was played
   lacks_on : (plays : PlaysFlat was.tale given mid now rig) (held : Option (List ℕ)) (number : ℕ)
       → BreaksDue (WasDue first version (was.events ++ given ∷ []) was.flushed taken) before.held held number
       → EndsFlat start before (streams left held now.heard now.steps) rig (WriteFailed number)
@@ -314,7 +314,7 @@ module _ (start : Tale) (version : ℕ) (before : Streams) (left_mid left : Opti
       lacks_records start before (streams left held now.heard now.steps) rig (way plays) was.flushed number bytes
       (follows plays) says_first breaks few (stands plays) (heard plays) (cost plays) (box_cost plays)
 
-  -- what is gathered is written before
+  -- The event has a fault, and the buffer was flushed.
   fault_ends : (number : ℕ) (fault : EventFault) (held : Option (List ℕ)) → number ≡ next_number was.tale.played
       → FaultsEvent (coming was.tale given) fault (setting mid was_rig) (setting now rig)
       → IsWritten mid.held held draft.gathered
@@ -429,7 +429,7 @@ module _ (start : Tale) (version : ℕ) (before : Streams) (left_mid left : Opti
       (more_due (was.events ++ given ∷ []) refl) (next_number was.tale.played) due (here file_fits)
       now.held lacking (subst P due_same lacks.breaks))
 
-  -- what is gathered is written at a pause behind it, and that fails
+  -- the flush at the pause after the event failed
   pub pause_lacks : (is : Draft) (held : Option (List ℕ)) (lacking : ℕ)
       → PassesEvent was.tale given (stage draft mid was_rig) (stage is now rig)
       → BreaksWriting now.held held is.gathered lacking

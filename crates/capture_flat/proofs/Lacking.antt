@@ -1,4 +1,4 @@
--- An event whose records were gathered, and could not be written.
+-- An event whose records were buffered and could not be written.
 use Rattle.std.proofs.Common.{◌≡◌, ◌≤◌, inl, ◌+◌, ◌++◌, ℕ, List, [], ◌∷◌, length, length-append, refl, ap, sym}
 use Rattle.std.proofs.Common.{◌∙◌, append_assoc, append-nil, arith}
 use Rattle.dev_io.specs.Device.{prepended}
@@ -15,8 +15,8 @@ use Rattle.capture_flat.specs.Passing.{EndsFlat, Follows, Way}
 use Rattle.gpu_capture.specs.Reading.{AreNeeded, SaysFirst}
 use Rattle.capture_flat.specs.declared.ending.FlatEnding.TheVariants.{WriteFailed}
 
--- these bytes are due at the event of this number, one of these, behind those that were due before; the bytes that were
--- taken up to it begin with those that were when all was last written
+-- `due` is the output of event `number`, one of these, and follows the output `was`. `flushed`: the bytes read at the
+-- last flush. The bytes that this event needs start with them.
 pub record WasDue (first : Tale) (version : ℕ) (events : List Event) (flushed taken : List ℕ) (number : ℕ)
     (was due : List ℕ) : Type 0 where
   pub earlier : List Event
@@ -35,7 +35,7 @@ pub record WasDue (first : Tale) (version : ℕ) (events : List Event) (flushed 
   pub taken_is : taken ≡ (flushed ++ between) ++ rest
   pub needed : AreNeeded capture (earlier ++ event ∷ []) (flushed ++ between)
 
--- where more events come, and more bytes are taken
+-- the same after further events and bytes are read
 pub due_more : (first : Tale) (version : ℕ) (events more all : List Event) (flushed taken further : List ℕ)
     → all ≡ events ++ more → (number : ℕ) (was due : List ℕ) → WasDue first version events flushed taken number was due
     → WasDue first version all flushed (taken ++ further) number was due
@@ -58,7 +58,7 @@ due_more first version events more all flushed taken further all_are number was 
   needed = is.needed;
 }
 
--- the last of the events
+-- the output of the last event read
 pub due_here : (first tale : Tale) (version : ℕ) (events flat : List Event) (given : Event)
     (flushed behind taken further : List ℕ) → Follows first events tale flat
     → length (flat_file first version (events ++ given ∷ [])) ≤ limit → taken ≡ flushed ++ behind
@@ -86,7 +86,7 @@ due_here first tale version events flat given flushed behind taken further follo
       needed = rw all at needed;
     }
 
--- its records lack a byte
+-- The output of event `number` is incomplete.
 pub lacks_records : (start : Tale) (before now : Streams) (rig : RigState) (way : Way) (flushed : List ℕ) (number : ℕ)
     → before.left ≡ prepended way.taken now.left
     → Follows (raised start way.version) way.events way.tale way.flat

@@ -1,4 +1,4 @@
--- What stands in the output.
+-- The contents of the output.
 use Rattle.std.proofs.Common.{◌≡◌, ◌≤◌, inl, inr, ◌+◌, ◌++◌, ◌==◌, false, ℕ, List, [], length, length-append, refl, ap}
 use Rattle.std.proofs.Common.{sym, ◌∙◌, append_assoc, arith}
 use Rattle.std.proofs.lemmas.Bool.{cases_Bool, eqb-true}
@@ -14,7 +14,7 @@ use Rattle.gpu_capture.proofs.Spelled.{spell-append}
 counts_on : (played : ℕ) → (next_number played == 0) ≡ false
 counts_on played = grind arith
 
--- what is due at an event stands behind what was there
+-- The output of the next event follows the output so far.
 pub begun_on : (version played : ℕ) (flat more : List Event) → (played ≡ 0 → flat ≡ [])
     → begun version (next_number played) (flat ++ more)
     ≡ begun version played flat ++ (head_due version played ++ spell more)
@@ -26,7 +26,7 @@ begun_on version played flat more fresh =
           (ap (λ bytes. head ++ bytes) (spell-append flat more) ∙ sym (append_assoc head (spell flat) (spell more)))
     ]
 
--- what is due with the End record
+-- With the End record, the output is the whole file.
 pub begun_end : (version played : ℕ) (flat : List Event) → (played ≡ 0 → flat ≡ [])
     → begun version played flat ++ (head_due version played ++ spelled_end) ≡ written (flat_version version) flat
 begun_end version played flat fresh =
@@ -35,7 +35,7 @@ begun_end version played flat fresh =
       | inr some ↦ rw some refl
     ]
 
--- a whole file is what stands behind an event, and an End record
+-- A whole file is the output after an event, then an End record (4 bytes).
 pub written_length : (version played : ℕ) (flat : List Event)
     → length (written (flat_version version) flat) ≡ length (begun version (next_number played) flat) + 4
 written_length version played flat =
@@ -45,7 +45,7 @@ written_length version played flat =
     let e : length (bytes ++ spelled_end) ≡ length bytes + 4 = omega (arith, a, b) in
     rw (counts_on played) e
 
--- a whole file is not too long, where what stands behind the events leaves room for an End record
+-- A whole file is not too long if an End record still fits after the output so far.
 pub written_fits : (version played : ℕ) (flat : List Event) → (played ≡ 0 → flat ≡ [])
     → length (begun version played flat) + 4 ≤ limit
     → length (written (flat_version version) flat) ≤ limit

@@ -21,7 +21,7 @@ use Rattle.gpu_capture.specs.Written.{spell}
 use Rattle.capture_flat.specs.OneEvent.{PlaysFlat}
 use Rattle.event_play.specs.Setting.{setting}
 
--- what an event asks for, by a rig that stands for the machine
+-- what an event asks of the machine, computed from a rig that agrees with it
 asks : (rig : RigState) (s : Machine) (event : Event) (asked : Result Work EventFault) → Stands rig s
     → asked ≡ work_of rig.ram rig.running event
     → work_of s.ram s.running event ≡ asked
@@ -42,11 +42,11 @@ faults_event t rig now event fault at same stands is = record {
   unchanged = refl;
 }
 
--- what an event was is not changed by a look at what it asks for
+-- A rig still agrees with the replay after it was asked for an event's operation.
 pub stands_same : (t : Tale) (rig mid : RigState) → mid ≡ rig → StandsFor rig t → StandsFor mid t
 stands_same t rig mid same stands = rw same stands
 
--- main memory after a work gives the same flat events
+-- Main memory after an operation gives the same flat events.
 same_flat : (s : Machine) (number : ℕ) (asked : Work)
     → flat_work (done s number asked).machine.ram asked ≡ flat_work s.ram asked
 same_flat s number work.Nothing = refl
@@ -60,7 +60,7 @@ same_flat s number work.Stat = refl
 same_flat s number (work.Clear madr n) = refl
 same_flat s number (work.Begin next) = refl
 
--- the flat events of an event, by main memory after it
+-- the flat events of an event, from main memory after it
 flat_is : (t : Tale) (rig now : RigState) (event : Event) (asked : Work) (shown : Option ℕ) (before behind : Outlets)
     → StandsFor rig t → Ok asked ≡ work_of rig.ram rig.running event
     → HasStepped t.state (numbered (next_number t.played) event) shown before (setting behind now)
@@ -104,7 +104,7 @@ plays_flat t rig mid now event asked shown before behind ram stands same is step
       allowed = rw (after, flat) at allows;
     }
 
--- what is due at an event, as a caller knows it
+-- the output of an event, from the values that the code has
 pub due_known : (version : ℕ) (t : Tale) (rig now : RigState) (event : Event) (asked : Work) (before behind : Outlets)
     (played : ℕ) (ram : List ℕ) → StandsFor rig t → Ok asked ≡ work_of rig.ram rig.running event
     → PlaysFlat t event before behind now → played ≡ rig.played → ram ≡ now.ram
@@ -117,7 +117,7 @@ pub number_is : (t : Tale) (rig : RigState) (played number : ℕ) → StandsFor 
     → number ≡ next_number played → number ≡ next_number t.played
 number_is t rig played number stands was is = is ∙ ap next_number (was ∙ sym stands.played)
 
--- the bytes that are due were counted
+-- the size of the file with these bytes
 pub due_length : (size bytes : ℕ) (xs ys : List ℕ) → bytes ≡ length xs → xs ≡ ys → size + bytes ≡ size + length ys
 due_length size bytes xs ys count same = rw (← same) (ap (λ n. size + n) count)
 

@@ -5,11 +5,11 @@ use Rattle.gpu_capture.specs.Written.{spell}
 use Rattle.gpu_capture.specs.declared.event.Event.TheVariants.{Skip}
 use Rattle.gpu_capture.proofs.Spelled.{spell-append, spell_split}
 
--- reads, and one more
+-- i reads, then one more
 pub skips_more : (i : ℕ) → spell (replicate (i + 1) Skip) ≡ spell (replicate i Skip) ++ spell (Skip ∷ [])
 skips_more i = ap spell (sym (replicate-append-replicate i 1 Skip)) ∙ spell-append (replicate i Skip) (Skip ∷ [])
 
--- reads, one of them, and those behind it
+-- i reads, one read, then the rest
 pub skips_split : (i n : ℕ) → i < n
     → spell (replicate n Skip) ≡ spell (replicate i Skip) ++ (spell (Skip ∷ []) ++ spell (replicate (n - (i + 1)) Skip))
 skips_split i n lt =

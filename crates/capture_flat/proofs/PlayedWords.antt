@@ -1,4 +1,4 @@
--- Words that are played at once, an event each: the tale behind them, and their records.
+-- Words that are played as one block, one event per word: the replay after them, and their records.
 use Rattle.std.proofs.Common.{◌≡◌, ◌≤◌, ◌+◌, ◌*◌, ◌++◌, ℕ, List, [], ◌∷◌, Option, length, refl, ap}
 use Rattle.std.proofs.Common.{sym, subst, ◌∙◌, append_assoc, append-nil, option_to_list, ◌==◌, false, arith}
 use Rattle.std.proofs.Common.{length-append}
@@ -28,13 +28,13 @@ use Rattle.capture_flat.proofs.Following.{all_flat, follows_on}
 use Rattle.capture_flat.proofs.Lacking.{WasDue, due_more}
 use Rattle.capture_flat.proofs.Output.{begun_on, written_length}
 
--- ---- the tale behind them
+-- ---- the replay after them
 
--- the tale of the same machine behind as many events, with nothing told yet
+-- the same machine after as many events, with nothing else recorded
 abbrev untold : Tale → Tale
 untold t = from_state t.state t.played
 
--- they lead to the same machine, whatever was told before
+-- The words lead to the same machine, whatever was recorded before.
 pub same_state : (t : Tale) (words : List ℕ) → (after_words t words).state ≡ (after_words (untold t) words).state
 same_state t [] = refl
 same_state t (word ∷ words) =
@@ -75,7 +75,7 @@ word_flat : (s : Machine) (word : ℕ) → flat_events s (Gp0 word) ≡ Gp0 word
 unfolding flat_events
 word_flat s word = refl
 
--- one event more
+-- one more event
 word_follows : (first t : Tale) (events flat : List Event) (word : ℕ) → Follows first events t flat
     → AllowsAll 2 (Gp0 word ∷ [])
     → Follows first (events ++ Gp0 word ∷ []) (after_word t word) (flat ++ Gp0 word ∷ [])
@@ -100,13 +100,13 @@ words_follow first t events flat (word ∷ words) follows allows =
 
 -- ---- their records
 
--- the record of a word is due at its event, behind other events
+-- After the first event, the output of a word is its record alone.
 word_due : (version : ℕ) (t : Tale) (word : ℕ) → 1 ≤ t.played → due_at version t (Gp0 word) ≡ spell (Gp0 word ∷ [])
 word_due version t word some =
     let counted : (t.played == 0) ≡ false = grind (arith, some) in
     rw (word_flat t.state word, counted) refl
 
--- what stands behind it
+-- the output up to and including the word's record
 begun_word : (version : ℕ) (t : Tale) (flat : List Event) (word : ℕ) → 1 ≤ t.played → (t.played ≡ 0 → flat ≡ [])
     → begun version (next_number t.played) (flat ++ Gp0 word ∷ [])
     ≡ begun version t.played flat ++ due_at version t (Gp0 word)
@@ -116,11 +116,11 @@ begun_word version t flat word some fresh =
     ≡ begun version t.played flat ++ due_at version t (Gp0 word) in
     subst P is (begun_on version t.played flat (flat_events t.state (Gp0 word)) fresh)
 
--- one piece is its record
+-- the record as one piece
 one_piece : (number word : ℕ) → ArePieces number (spell (Gp0 word ∷ [])) (piece number (spelled (Gp0 word)) ∷ [])
 one_piece number word = record { numbers = (refl, tt); bytes_are = refl }
 
--- pieces that are gathered behind others are put
+-- Pieces that were added to the buffer count as put.
 put_gathered : (number : ℕ) (bytes : List ℕ) (held : Option (List ℕ)) (gathered parts : List Piece)
     → ArePieces number bytes parts
     → IsPut (piece number bytes) (holding held gathered) (holding held (gathered ++ parts))
@@ -134,7 +134,7 @@ put_gathered number bytes held gathered parts are = record {
   };
 }
 
--- of a file that stands behind some events, and of one with these records more
+-- the length of the output with the records of the words: 8 bytes more per word
 pub words_length : (version : ℕ) (t : Tale) (flat : List Event) (words : List ℕ) → 1 ≤ t.played
     → length (begun version (after_words t words).played (flat ++ word_events words))
     ≡ length (begun version t.played flat) + 8 * length words
@@ -149,7 +149,7 @@ words_length version t flat (word ∷ words) some =
 
 module _ (first : Tale) (version : ℕ) (flushed behind further taken : List ℕ) (base held : Option (List ℕ))
     (taken_is : taken ≡ (flushed ++ behind) ++ further) where
-  -- where more events come
+  -- the same with more events
   due_on : (events more : List Event) (number : ℕ) (was due : List ℕ)
       → WasDue first version events flushed taken number was due
       → WasDue first version (events ++ more) flushed taken number was due
@@ -158,7 +158,7 @@ module _ (first : Tale) (version : ℕ) (flushed behind further taken : List ℕ
       subst P (append-nil taken)
       (due_more first version events more (events ++ more) flushed taken [] refl number was due is)
 
-  -- a file with the record of a word more fits
+  -- With the record of one more word, the whole file is not too long.
   word_fits : (t : Tale) (events flat : List Event) (word : ℕ) → Follows first events t flat
       → AllowsAll 2 (Gp0 word ∷ []) → 1 ≤ t.played → length (begun version t.played flat) + 12 ≤ limit
       → length (flat_file first version (events ++ Gp0 word ∷ [])) ≤ limit
@@ -173,7 +173,7 @@ module _ (first : Tale) (version : ℕ) (flushed behind further taken : List ℕ
       let eight = words_bytes (word ∷ []) in
       rw all (omega (arith, whole, one, both, due, eight, room))
 
-  -- no byte of the words is needed for those before them
+  -- The events before a word need no byte of the words.
   was_due : (t : Tale) (events flat : List Event) (word : ℕ) → Follows first events t flat
       → AllowsAll 2 (Gp0 word ∷ []) → 1 ≤ t.played → length (begun version t.played flat) + 12 ≤ limit
       → AreNeeded capture events (flushed ++ behind)
@@ -197,7 +197,7 @@ module _ (first : Tale) (version : ℕ) (flushed behind further taken : List ℕ
     needed = needed_on capture events (Gp0 word ∷ []) (flushed ++ behind) needed;
   }
 
-  -- one of them is gathered
+  -- the record of one word is buffered
   word_gathered : (word : ℕ) (t : Tale) (events flat : List Event) (gathered : List Piece)
       → Follows first events t flat → AllowsAll 2 (Gp0 word ∷ []) → 1 ≤ t.played
       → length (begun version t.played flat) + 12 ≤ limit → AreNeeded capture events (flushed ++ behind)
@@ -220,7 +220,7 @@ module _ (first : Tale) (version : ℕ) (flushed behind further taken : List ℕ
       (was_due t events flat word follows allows some room needed)
       held (gathered ++ ps) (put_gathered n due held gathered ps (one_piece n word)))
 
-  -- all are
+  -- the records of all words are buffered
   pub words_gathered : (words : List ℕ) (t : Tale) (events flat : List Event) (gathered : List Piece)
       → Follows first events t flat → AllowsAll 2 (word_events words) → 1 ≤ t.played
       → length (begun version t.played flat) + 8 * length words + 4 ≤ limit

@@ -1,4 +1,4 @@
--- Flat events use the ports alone.
+-- Flat events use only the ports.
 use Rattle.std.proofs.Common.{◌++◌, ℕ, zero, suc, List, [], ◌∷◌, map, replicate, Result, Ok, Err}
 use Rattle.gpu_capture.specs.declared.event.Event.{Event}
 use Rattle.gpu_capture.specs.declared.event.Event.TheVariants as event

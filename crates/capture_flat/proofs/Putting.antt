@@ -1,4 +1,4 @@
--- Records of words that are put, one after another.
+-- Records of words, added to the buffer one after another.
 use Rattle.std.proofs.Common.{◌≡◌, ◌<◌, ◌+◌, ◌++◌, ℕ, List, [], ◌∷◌, Option, Result, Ok, Err, drop, length}
 use Rattle.std.proofs.Common.{slice_index, ap, sym, ◌∙◌}
 use Rattle.std.proofs.Common.{append_assoc, subst}
@@ -12,7 +12,7 @@ use Rattle.event_play.specs.Replay.{next_number}
 use Rattle.event_play.proofs.Listed.{breaks_more, put_on, put_piece}
 use Rattle.capture_flat.specs.Records.{record_pieces}
 
--- the records of words are those of the first ones, that of the next one, and those behind it
+-- the records of the words: those already added, the next one, then the rest
 pub pieces_on : (all done : List Piece) (number after : ℕ) (words : List ℕ) (i : ℕ) (bytes : List ℕ) → i < length words
     → after ≡ next_number number → bytes ≡ spelled (Gp0 (slice_index words i))
     → all ≡ done ++ record_pieces number (drop i words)
@@ -23,7 +23,7 @@ pieces_on all done number after words i bytes lt at is are =
     ∙ sym (append_assoc done (piece (next_number number) (spelled (Gp0 (slice_index words i))) ∷ [])
     (record_pieces (next_number number) (drop (i + 1) words))))
 
--- the writing broke off among some pieces, and so among these and others behind them
+-- If writing fails among some pieces, it fails among a longer list that starts with them.
 pub fails_more : {Value : Type 0} (before now : Holding) (ps qs all : List Piece) (lacking : ℕ) → all ≡ ps ++ qs
     → PutsPieces {Value = Value} ps before now (Err lacking) → PutsPieces {Value = Value} all before now (Err lacking)
 fails_more before now ps qs all lacking are fails =
@@ -35,7 +35,7 @@ fails_more before now ps qs all lacking are fails =
           (breaks_more before.held now.held (before.gathered ++ ps) qs lacking fails.failed));
     }
 
--- one more was put
+-- one more was added
 pub put_more : (before mid now : Holding) (done : List Piece) (p : Piece) → ArePut done before mid
     → ((base : Option (List ℕ)) (all : List Piece) → AreOut base all mid.held mid.gathered
     → AreOut base (all ++ p ∷ []) now.held now.gathered)

@@ -1,4 +1,4 @@
--- The end of a capture, and the file that was written of it.
+-- The end of a capture, and the file written for it.
 use Rattle.std.proofs.Common.{◌≡◌, ◌≤◌, ◌<◌, ◌==◌, inl, inr, ◌+◌, ◌++◌, ℕ, List, [], ◌∷◌, Option, length, refl, ap}
 use Rattle.std.proofs.Common.{sym, subst, ◌∙◌, append_assoc, append-nil, arith}
 use Rattle.dev_io.specs.Device.{prepended, appended, AppendsPart}
@@ -45,7 +45,7 @@ use Rattle.capture_flat.proofs.Ports.{all_ports}
 
 -- ---- what was written
 
--- what is written is played in the profile of what was read
+-- The written capture is played in the same profile as the capture read.
 same_tall : (version : ℕ) → (flat_version version == tall_version) ≡ (version == tall_version)
 same_tall version = grind arith
 
@@ -57,12 +57,12 @@ module _ (start t : Tale) (version : ℕ) (events flat : List Event)
   abbrev first : Tale
   first = raised start version
 
-  -- the events lead to this tale
+  -- the events lead to the replay `t`
   pub replayed_to : (rest : List ℕ) → played_events first events End rest ≡ whole t rest
   replayed_to rest = ap (λ all. played_events first all End rest) (sym (append-nil events))
       ∙ follows.replays [] End rest
 
-  -- a whole file that is not too long is a capture of the flat events, which are replayed alike
+  -- A whole file that is not too long is a capture of the flat events, and these are replayed alike.
   pub is_flat : length (flat_file first version events) ≤ limit → version ≤ 3
       → IsFlatCapture start t (flat_version version) (flat_replay first events) (flat_file first version events)
   is_flat few known =
@@ -225,7 +225,7 @@ module _ (start : Tale) (version : ℕ) (before : Streams) (left_mid left held_o
   stop_ends stop (Faulted number fault) stops low ends wrote = absurd ends
   stop_ends stop (TooLong number) stops low ends wrote = absurd ends
 
--- ---- the same, behind what is gathered
+-- ---- the same, after a flush of the buffer
 
 no_event : (events earlier later : List Event) (event : Event) → events ≡ [] → events ≡ earlier ++ event ∷ later → ⊥
 no_event events [] later event none are = cc
@@ -246,7 +246,7 @@ module _ (start : Tale) (version : ℕ) (before : Streams) (left_mid left held_m
     tale = was.tale;
   }
 
-  -- the bytes taken say the events, if there are some
+  -- If the version is known, the bytes read say the events.
   says_events : (stop : Stop) (stops : StopsAt (standing old left_mid) (standing new left) stop) → 1 ≤ old.version
       → SaysFirst capture (way_here stop stops).version (way_here stop stops).taken was.events
   says_events stop stops known = λ rest. (
@@ -277,7 +277,7 @@ module _ (start : Tale) (version : ℕ) (before : Streams) (left_mid left held_m
       stops.needed)
       was.stands was.heard was.cost (spent_within before.steps steps was.tale.cost was.tale.box_cost was.cost was.small)
 
-  -- by the number of events that the rig has counted
+  -- the same, with the rig's own count of events
   pub reading_ends : (played : ℕ) (stop : Stop) (ending : FlatEnding)
       → StopsAt (standing old left_mid) (standing new left) stop
       → version ≤ 3 → played ≡ rig.played

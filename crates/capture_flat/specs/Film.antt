@@ -1,5 +1,5 @@
--- The film and the history of cells of a replay of flat events, beside those of the replay that they were made of
--- (our own rule).
+-- The film and the history of cells of a replay of flat events, compared with the replay that they were made from (our
+-- own rule).
 use Rattle.std.specs.Prelude.{◌≡◌, ℕ, List, map, Option, None, Some}
 use Rattle.gp0_packets.specs.declared.note.Note.{Note}
 use Rattle.gpu_capture.specs.declared.event.Event.{Event}
@@ -20,7 +20,7 @@ use Rattle.capture_flat.specs.Flat.{flat_replay}
 abbrev pub bare_frame : Frame → ℕ × Parts
 bare_frame frame = (frame.word, frame.parts)
 
--- a stroke without the number of its event
+-- a note, and a change, without the number of its event
 abbrev pub unnumbered : Option Note → Option Note
 unnumbered None = None
 unnumbered (Some note) = Some (record note { event = 0 })
@@ -28,16 +28,16 @@ unnumbered (Some note) = Some (record note { event = 0 })
 abbrev pub bare_stroke : Stroke → Stroke
 bare_stroke stroke = record { note = unnumbered stroke.note; before = stroke.before; after = stroke.after }
 
--- Two replays write the same pictures, at flips as at marks. But for the numbers of events they have the same frames,
--- and their items change the same cells in the same way.
+-- Two replays write the same pictures, at flips and at marks. Except for event numbers, they have the same frames, and
+-- their items change the same cells in the same way.
 pub record ShowAlike (a b : Played) : Type 0 where
   pub pictures : (at : Moment) (heard other : List Reading)
       → out_bytes (Frames at) heard a ≡ out_bytes (Frames at) other b
   pub frames : map bare_frame a.tale.frames ≡ map bare_frame b.tale.frames
   pub strokes : map bare_stroke a.tale.strokes ≡ map bare_stroke b.tale.strokes
 
--- Whatever machine they start from, of either height, the flat events that are made of events without a fault keep
--- their film and the history of every cell.
+-- From every machine, of either height: if events have no fault, their flat events keep the film and the history of
+-- every cell.
 abbrev pub FlatKeepsFilm : Type 0
 FlatKeepsFilm = (s : Machine) (events : List Event) → (replay_of s events).ending ≡ Done
     → ShowAlike (replay_of s (flat_replay (from_state s 0) events)) (replay_of s events)

@@ -1,4 +1,4 @@
--- Events without main memory and DMA, made of events along their replay (our own rule).
+-- Events without main memory and DMA, made from events during their replay (our own rule).
 use Rattle.std.specs.Prelude.{ℕ, List, [], ◌∷◌, ◌++◌, map, replicate, Result, Ok, Err}
 use Rattle.gpu_capture.specs.declared.event.Event.{Event}
 use Rattle.gpu_capture.specs.declared.event.Event.TheVariants as event
@@ -9,8 +9,9 @@ use Rattle.event_play.specs.declared.fault.EventFault.{EventFault}
 use Rattle.event_play.specs.declared.work.Work.{Work}
 use Rattle.event_play.specs.declared.work.Work.TheVariants as work
 
--- What a work does at the ports, by main memory before it: each word that goes to GP0, each word that goes to GP1, each
--- read and each status word that is shown, and a read that is not shown for each word that goes to main memory.
+-- The effect of an operation at the ports. `ram`: main memory before it. Each word written to a port is a Gp0 or Gp1
+-- event, each shown word a Read or Stat event. A read that is not shown and each word that goes to main memory is a
+-- Skip event.
 abbrev pub flat_work : List ℕ → Work → List Event
 flat_work ram work.Nothing = []
 flat_work ram (work.Put address word) = []
@@ -27,7 +28,7 @@ abbrev pub flat_asked : List ℕ → Result Work EventFault → List Event
 flat_asked ram (Ok asked) = flat_work ram asked
 flat_asked ram (Err fault) = []
 
--- an event that comes to a machine
+-- the flat events of an event on the machine `s`; none if the event has a fault
 unfoldable pub flat_events : Machine → Event → List Event
 flat_events s event = flat_asked s.ram (work_of s.ram s.running event)
 
@@ -35,7 +36,7 @@ abbrev pub then_flat : Result Tale EventFault → (Tale → List Event) → List
 then_flat (Ok next) on = on next
 then_flat (Err fault) on = []
 
--- events, along their replay up to the first fault
+-- the flat events of a list of events, up to the first fault
 abbrev pub flat_replay : Tale → List Event → List Event
 flat_replay t [] = []
 flat_replay t (event ∷ events) = flat_events t.state event

@@ -1,4 +1,4 @@
--- A flat capture that is written as the events come (our own rule).
+-- A flat capture that is written event by event (our own rule).
 use Rattle.std.specs.Prelude.{◌≡◌, ◌≤◌, ◌<◌, ◌⊎◌, ℕ, List, [], ◌∷◌, ◌++◌, ◌+◌, Err, length}
 use Rattle.dev_io.specs.Device.{prepended, appended, AppendsPart, Rose}
 use Rattle.gpu_capture.specs.Capture.{capture, limit}
@@ -22,8 +22,8 @@ use Rattle.capture_flat.specs.Out.{begun, due_at, head_due, flat_version, flat_f
 use Rattle.capture_flat.specs.declared.ending.FlatEnding.{FlatEnding}
 use Rattle.capture_flat.specs.declared.ending.FlatEnding.TheVariants.{Done, Stopped, Faulted, TooLong, WriteFailed}
 
--- how far a capture was read and played: its version, the bytes taken, the events that were played, the flat events
--- made of them, and the tale that they lead to
+-- how far a capture was read and played: its version, the bytes read, the events played, their flat events, and the
+-- replay after them
 pub record Way : Type 0 where
   pub version : ℕ
   pub taken : List ℕ
@@ -31,8 +31,8 @@ pub record Way : Type 0 where
   pub flat : List Event
   pub tale : Tale
 
--- Events lead from a tale to a tale, and these are their flat events, whatever events follow. Where none was played
--- there are none.
+-- The events lead from replay `first` to replay `tale`, whatever events follow. `flat`: their flat events, empty if no
+-- event was played.
 pub record Follows (first : Tale) (events : List Event) (tale : Tale) (flat : List Event) : Type 0 where
   pub replays : (more : List Event) (stop : Stop) (rest : List ℕ)
       → played_events first (events ++ more) stop rest ≡ played_events tale more stop rest
@@ -40,13 +40,13 @@ pub record Follows (first : Tale) (events : List Event) (tale : Tale) (flat : Li
   pub fresh : tale.played ≡ 0 → flat ≡ []
   pub allowed : AllowsAll 2 flat
 
--- what the bytes taken say
+-- what the bytes read say
 abbrev pub said_of : Way → Said
 said_of way = record { version = way.version; events = way.events }
 
 -- ---- the endings
 
--- all was read, played and written
+-- the whole capture was read and played, and its flat capture written
 pub record IsWhole (first : Tale) (way : Way) (before now : Streams) : Type 0 where
   pub says : SaysStop capture way.taken (said_of way) End now.left
   pub needed : AreNeededToEnd capture way.events way.taken
@@ -56,14 +56,14 @@ pub record IsWhole (first : Tale) (way : Way) (before now : Streams) : Type 0 wh
       (flat_replay (raised first way.version) way.events)
       (flat_file (raised first way.version) way.version way.events)
 
--- the reader stopped otherwise; all that was due stands
+-- The reader stopped for another reason than End. All earlier output was written.
 pub record IsStopped (way : Way) (number : ℕ) (stop : Stop) (before now : Streams) : Type 0 where
   pub number_is : number ≡ next_number way.tale.played
   pub says : SaysStop capture way.taken (said_of way) stop now.left
   pub needed : AreNeededToEnd capture way.events way.taken
   pub held : now.held ≡ appended before.held (begun way.version way.tale.played way.flat)
 
--- the next event has a fault; all that was due stands
+-- The next event has a fault. All earlier output was written.
 pub record HasFault (way : Way) (number : ℕ) (fault : EventFault) (before now : Streams) : Type 0 where
   pub event : Event
   pub number_is : number ≡ next_number way.tale.played
@@ -72,7 +72,7 @@ pub record HasFault (way : Way) (number : ℕ) (fault : EventFault) (before now 
   pub fault_is : event_step way.tale.state number event ≡ Err fault
   pub held : now.held ≡ appended before.held (begun way.version way.tale.played way.flat)
 
--- the last event of the way, and what was there before it
+-- the last event of the `Way`, and the events before it
 pub record IsLast (first : Tale) (way : Way) (number : ℕ) : Type 0 where
   pub before : List Event
   pub event : Event
@@ -84,16 +84,16 @@ pub record IsLast (first : Tale) (way : Way) (number : ℕ) : Type 0 where
   pub needed : AreNeeded capture way.events way.taken
   pub says : SaysFirst capture way.version way.taken way.events
 
--- With the records of the last event the file would be too long, and without them it would not. None of them was
--- written; all that was due before stands.
+-- With the records of the last event the file would be too long; without them, it would not. None of them was written.
+-- All earlier output was written.
 pub record IsLong (first : Tale) (way : Way) (number : ℕ) (before now : Streams) : Type 0 where
   pub last : IsLast first way number
   pub held : now.held ≡ appended before.held (begun way.version last.tale.played last.flat)
   pub fits : length (flat_file (raised first way.version) way.version last.before) ≤ limit
   pub long : limit < length (flat_file (raised first way.version) way.version way.events)
 
--- A proper part of the records of this event was written, behind all that was due before it. The events of the way
--- behind it were read and played while its records were gathered, and few bytes were taken behind it.
+-- A proper prefix of the output of event `number` was written, after all earlier output. Later events may have been
+-- read and played while it was buffered. At most 4,112 bytes were read that this event does not need.
 pub record LacksRecords (first : Tale) (way : Way) (number : ℕ) (before now : Streams) : Type 0 where
   pub earlier : List Event
   pub event : Event
@@ -109,7 +109,7 @@ pub record LacksRecords (first : Tale) (way : Way) (number : ℕ) (before now : 
       (due_at way.version tale event)
   pub fits : length (flat_file (raised first way.version) way.version (earlier ++ event ∷ [])) ≤ limit
 
--- a proper part of the End record was written
+-- a proper prefix of the End record was written, or of the file header and the End record if there was no event
 pub record LacksEnd (first : Tale) (way : Way) (number : ℕ) (before now : Streams) : Type 0 where
   pub number_is : number ≡ next_number way.tale.played
   pub needed : AreNeededToEnd capture way.events way.taken
@@ -126,16 +126,15 @@ SaysEnding first way before now (TooLong number) = IsLong first way number befor
 SaysEnding first way before now (WriteFailed number) =
     LacksRecords first way number before now ⊎ LacksEnd first way number before now
 
--- Wherever the ending is not that it is too long, the whole file of the events played is not. What a failed write says
--- of it stands beside the event.
+-- Unless the ending is `TooLong` or `WriteFailed`, the whole file of the events played is not too long. For a failed
+-- write, `LacksRecords` and `LacksEnd` bound the file.
 abbrev pub Fits : (first : Tale) (way : Way) → FlatEnding → Type 0
 Fits first way (TooLong number) = Unit {0}
 Fits first way (WriteFailed number) = Unit {0}
 Fits first way ending = length (flat_file (raised first way.version) way.version way.events) ≤ limit
 
--- How a flat capture ends. The events of the way are all that were played before the ending, and the last one too where
--- its records were refused or not written whole. The rig and the taps are as they are after these events, and the store
--- steps are theirs by both counts.
+-- How a flat capture ends. `way` has all events played, including one whose records were too long or incomplete. The
+-- rig and the taps are as after these events. The store steps are at most those of these events, by both bounds.
 pub record EndsFlat (first : Tale) (before now : Streams) (rig : RigState) (ending : FlatEnding) : Type 0 where
   pub way : Way
   pub bytes : before.left ≡ prepended way.taken now.left
@@ -149,23 +148,23 @@ pub record EndsFlat (first : Tale) (before now : Streams) (rig : RigState) (endi
 
 -- ---- causes
 
--- it ended by a fault of the source
+-- flattening ended with a fault of the source
 abbrev pub MayReadFault : FlatEnding → Type 0
 MayReadFault (Stopped number (ReadFault byte)) = Unit {0}
 MayReadFault ending = ⊥
 
--- it ended by a fault of the sink
+-- flattening ended with a fault of the sink
 abbrev pub MayWriteFault : FlatEnding → Type 0
 MayWriteFault (WriteFailed number) = Unit {0}
 MayWriteFault ending = ⊥
 
--- it never stops with End
+-- `Stopped` never has the stop End
 abbrev pub IsEnding : FlatEnding → Type 0
 IsEnding (Stopped number End) = ⊥
 IsEnding ending = Unit {0}
 
--- an ending of what writes alone, by how often the sink failed before and after: no fault of the source, and a fault of
--- the sink only where it failed
+-- An ending of code that only writes. `before`, `now`: how often the sink has failed. It is no fault of the source, and
+-- a fault of the sink only if the sink failed.
 pub record EndsWriting (before now : ℕ) (ending : FlatEnding) : Type 0 where
   pub known : IsEnding ending
   pub read : MayReadFault ending → ⊥

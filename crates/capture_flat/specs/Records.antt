@@ -1,4 +1,4 @@
--- Records of words that are played at once, an event each (our own rule).
+-- Records of words that are played as one block, one event per word (our own rule).
 use Rattle.std.specs.Prelude.{ℕ, ◌+◌, List, [], ◌∷◌}
 use Rattle.gathered_out.specs.Pieces.{Piece, piece}
 use Rattle.gpu_capture.specs.Written.{spelled}
@@ -6,12 +6,12 @@ use Rattle.gpu_capture.specs.declared.event.Event.TheVariants.{Gp0}
 use Rattle.event_play.specs.Replay.{next_number}
 use Rattle.capture_flat.specs.declared.file.FlatFile.{FlatFile}
 
--- the records of words behind so many events, each a piece of its event
+-- the records of words after `played` events, one piece per word
 abbrev pub record_pieces : (played : ℕ) → (words : List ℕ) → List Piece
 record_pieces played [] = []
 record_pieces played (word ∷ words) =
     piece (next_number played) (spelled (Gp0 word)) ∷ record_pieces (next_number played) words
 
--- a file with so many bytes more
+-- the file with `bytes` more bytes
 abbrev pub longer : FlatFile → (bytes : ℕ) → FlatFile
 longer file bytes = record file { size = file.size + bytes }

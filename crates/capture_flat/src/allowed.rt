@@ -1,4 +1,4 @@
-// The flat events of a work can be written: they hold words, and are known from version 2 on.
+// The flat events of an operation can be written: their values are words, and version 2 has a record for each.
 ghost use Rattle.std.specs.Prelude.{◌<◌, ◌^◌, ℕ, map, slice_index};
 ghost use Rattle.gpu_capture.specs.Written.{AllowsAll};
 ghost use Rattle.gpu_capture.specs.declared.event.Event.TheVariants.{Gp0};
@@ -8,7 +8,7 @@ ghost use Rattle.capture_flat.specs.Flat.{flat_work};
 use event_play::{Words, Work};
 use ot_clear_dma::Ram;
 
-/// The flat events of a work are allowed from version 2 on. It does nothing.
+/// Proves that the flat events of an operation are valid in version 2. Does nothing.
 pub(crate) fn allowed(ram: &Ram, work: Work)
     ensures { AllowsAll 2 (flat_work ram.now work) }
 {
@@ -28,21 +28,21 @@ pub(crate) fn allowed(ram: &Ram, work: Work)
     }
 }
 
-/// Words can be written. It does nothing.
+/// Proves that Gp0 events of these words are valid in version 2. Does nothing.
 pub(crate) fn slice_allowed(words: &[u32])
     ensures { AllowsAll 2 (map Gp0 words.now) }
 {
     words_fit(words);
 }
 
-// Each word has 32 bits. It does nothing.
+// Proves that each word has 32 bits. Does nothing.
 fn words_fit(words: &[u32])
     ensures { (k : ℕ) → slice_index words.now k < 2 ^ 32 }
 {
     let _ = words.len();
 }
 
-// The words of main memory and one that the processor writes can be written.
+// Proves that Gp0 events of the words that an operation feeds are valid in version 2. Does nothing.
 fn words_allowed(ram: &Ram, words: Words)
     ensures { AllowsAll 2 (map Gp0 (words_of ram.now words)) }
 {

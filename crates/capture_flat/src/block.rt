@@ -1,4 +1,4 @@
-// Words of an open record are played at once, an event each, and their flat records gathered.
+// Plays the words of an open record as one block, one event per word, and buffers their flat records.
 ghost use Rattle.std.specs.Prelude.{◌≡◌, ◌≤◌, ◌<◌, ◌+◌, ◌*◌, ◌^◌, length, map, OnErr};
 ghost use Rattle.dev_io.specs.Device.{Rose};
 ghost use Rattle.gathered_out.specs.Puts.{holding};
@@ -23,9 +23,9 @@ use gpu_taps::Listener;
 use std::sync::ledger::Ledger;
 use vram_store::Steps;
 
-/// How many words of an open record may be taken at once, where all was last written at this place of the reader and
-/// the file has so many bytes: those that are left and at hand, fewer than 4,096 bytes behind that place, and whose
-/// records surely fit.
+/// Returns how many words of the open record may be read as one block. They must be at hand, end less than 4,096 bytes
+/// after `since`, and leave space for their records and an End record. `since`: offset of the reader at the last flush.
+/// `size`: length of the file in bytes, at most 2^30 - 4.
 pub(crate) fn words_at_once<S: Source>(
     reader: &EventReader,
     source: &S,
@@ -43,10 +43,11 @@ pub(crate) fn words_at_once<S: Source>(
     (source.ready() / 4).min(due as usize)
 }
 
-/// Plays words that are written to GP0, an event each, and puts their records behind the file so far, for all of which
-/// there is room. Where that fails, all of them are played all the same, and the answer is the number of the first
-/// event whose record lacks a byte.
-/// As with one event, playing touches the rig, the taps and the steps, and putting the file and the sink.
+/// Plays words written to GP0, one event per word, and adds their records to the file. The records and an End record
+/// must fit. On failure, all words are played, and the result is the number of the first event whose record is
+/// incomplete.
+///
+/// There are six parameters because playing changes the rig, the taps and the steps, and writing the file and the sink.
 pub(crate) fn pass_words<K: Sink, T: Listener, L: Ledger>(
     rig: &mut Rig,
     words: &[u32],
@@ -73,8 +74,8 @@ pub(crate) fn pass_words<K: Sink, T: Listener, L: Ledger>(
     put_words(played, words, &mut draft.gathered, out)
 }
 
-// Puts the records of words behind so many events, an event each. The answer to a failure is the number of the first
-// event whose record lacks a byte.
+// Adds the records of words to the buffer, one event per word, numbered from `played + 1`. On failure, returns the
+// number of the first event whose record is incomplete.
 fn put_words<K: Sink>(
     played: u64,
     words: &[u32],

@@ -1,4 +1,4 @@
-// How many bytes the records of a work have.
+// How many bytes the records of an operation have.
 ghost use Rattle.std.specs.Prelude.{◌≡◌, ◌≤◌, ◌+◌, ◌*◌, ◌^◌, flat_map, length};
 ghost use Rattle.list_dma.specs.Node.{node_words};
 ghost use Rattle.list_dma.specs.Walk.{chain, list_words};
@@ -12,7 +12,7 @@ use event_play::{Words, Work};
 use list_dma::{WALK_LIMIT, next_node, node_at};
 use ot_clear_dma::Ram;
 
-/// How many bytes the records of a work have, by main memory.
+/// Returns the number of bytes of the records of an operation. `ram`: main memory.
 #[tactic(auto, using(crate::proofs::Counts::words_bytes, crate::proofs::Counts::skips_bytes))]
 pub(crate) fn count_work(ram: &Ram, work: Work) -> u32
     requires { IsWork work }
@@ -33,7 +33,7 @@ pub(crate) fn count_work(ram: &Ram, work: Work) -> u32
     }
 }
 
-// How many words go to GP0.
+// Returns how many words go to GP0.
 #[tactic(auto, using(crate::proofs::Counts::block_length))]
 fn count_words(ram: &Ram, words: Words) -> u32
     requires { AreWords words }
@@ -48,7 +48,7 @@ fn count_words(ram: &Ram, words: Words) -> u32
     }
 }
 
-// How many words a node has.
+// Returns how many words a list node has: 0 to 255.
 #[tactic(auto, using(crate::proofs::Counts::node_length))]
 fn count_node(ram: &Ram, node: u32) -> u32
     ensures value { result ≡ length (node_words ram.now node) }
@@ -57,7 +57,7 @@ fn count_node(ram: &Ram, node: u32) -> u32
     ram.get(node) >> 24
 }
 
-// How many words a list has.
+// Returns how many words a list has. `start`: address of the first node.
 #[tactic(auto, unfolding(list_dma::specs::Walk::list_words, list_dma::specs::Walk::walk_of))]
 fn count_list(ram: &Ram, start: u32) -> u32
     ensures value { result ≡ length (list_words ram.now start) }
@@ -66,7 +66,7 @@ fn count_list(ram: &Ram, start: u32) -> u32
     count_nodes(ram, start, WALK_LIMIT)
 }
 
-// How many words the first nodes of a list have.
+// Returns how many words the first `limit` nodes of a list have.
 fn count_nodes(ram: &Ram, start: u32, limit: u32) -> u32
     requires { limit ≤ memory_words + 1 }
     ensures value { result ≡ length (flat_map (node_words ram.now) (chain ram.now start limit)) }

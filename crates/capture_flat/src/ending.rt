@@ -5,15 +5,15 @@ use gpu_capture::Stop;
 /// How a flat capture ends. Events are numbered from 1.
 #[derive(Clone, Copy, Debug, PartialEq, Eq)]
 pub enum FlatEnding {
-    /// The capture was read to its End, and all was written.
+    /// The capture was read to its End, and the whole flat capture was written.
     Done,
-    /// The reader stopped otherwise, where this event was due.
+    /// The reader stopped for another reason. `event`: the number of the next event.
     Stopped { event: u64, stop: Stop },
-    /// This event has a fault, and was not played.
+    /// This event has a fault and was not played.
     Faulted { event: u64, fault: EventFault },
-    /// This event was played, but its records, with those before and an End record, would be more than 2^30 bytes.
+    /// This event was played. With its records and an End record, the file would have more than 2^30 bytes.
     TooLong { event: u64 },
-    /// This event was played, but its records could not be written; or the End record could not, where it is the number
-    /// of the next event.
+    /// This event was played, and its output was not written completely. If the output at End is incomplete, `event` is
+    /// the number of the next event.
     WriteFailed { event: u64 },
 }

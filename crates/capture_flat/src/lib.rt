@@ -1,4 +1,5 @@
-//! A capture without main memory and DMA: what its transfers do becomes writes to the ports, and reads.
+//! Writes a capture without main memory and DMA. Words moved to the GPU become GP0 writes; words moved to main memory
+//! become reads.
 #![tactic(auto)]
 
 mod allowed;

@@ -1,4 +1,4 @@
-// Events are played, and their flat records gathered.
+// Plays events and buffers their flat records.
 ghost use Rattle.std.specs.Prelude.{◌≡◌, ◌≤◌, ℕ, ◌+◌, ◌^◌, ◌++◌, length, map, OnOk, IfErr};
 ghost use Rattle.gathered_out.specs.Pieces.{piece};
 ghost use Rattle.gathered_out.specs.Puts.{Puts, sink_state};
@@ -27,9 +27,11 @@ use ot_clear_dma::Ram;
 use std::sync::ledger::Ledger;
 use vram_store::Steps;
 
-/// Plays one event, and then puts its records behind the file so far. Where it has a fault, or its records are too
-/// many, nothing is put or written.
-/// Playing touches the rig, the taps and the steps, and putting the file and the sink, so that each is handed in.
+/// Plays one event and adds its output to the file. Returns the ending if the event has a fault, if the file would be
+/// too long, or if a write failed. In the first two cases, nothing is added or written; an event with a fault is not
+/// played. `draft.file` must have a version of at most 3 and at most 2^30 bytes.
+///
+/// There are six parameters because playing changes the rig, the taps and the steps, and writing the file and the sink.
 pub(crate) fn pass_event<K: Sink, T: Listener, L: Ledger>(
     rig: &mut Rig,
     event: &Event,
@@ -84,7 +86,7 @@ pub(crate) fn pass_event<K: Sink, T: Listener, L: Ledger>(
     }
 }
 
-// How many bytes are due at an event that asks for this work, behind so many events.
+// Returns the number of bytes that `put_due` adds.
 fn due_size(ram: &Ram, work: Work, played: u64) -> u32
     requires { IsWork work }
     ensures value { (version : ℕ) → result ≡ length (head_due version played ++ spell (flat_work ram.now work)) }
@@ -94,7 +96,8 @@ fn due_size(ram: &Ram, work: Work, played: u64) -> u32
     if played == 0 { records + 8 } else { records }
 }
 
-// Puts what is due at an event that asks for this work, behind so many events.
+// Adds the output of an event after `played` events: the file header if it is the first, then the records of its
+// operation. On failure, returns the number of the first event whose output is incomplete.
 fn put_due<K: Sink>(
     draft: &mut Draft,
     out: &mut K,
@@ -118,7 +121,7 @@ fn put_due<K: Sink>(
     }
 }
 
-// The head that is written for a version.
+// Returns the file header of the output: version 3 for input version 3, version 2 for a lower one.
 fn head(version: u8) -> [u8; 8]
     requires { version ≤ 3 }
     ensures { result ≡ head_of (flat_version version) }
@@ -126,7 +129,7 @@ fn head(version: u8) -> [u8; 8]
     head_bytes(version.max(2))
 }
 
-// Puts the head, if no event was played yet.
+// Adds the file header if no event was played yet.
 fn put_head<K: Sink>(
     gathered: &mut Gathered,
     out: &mut K,

@@ -1,4 +1,4 @@
-// The records of what a work does at the ports, each of them gathered under the number of the event.
+// The records of an operation's effect at the ports, each buffered with the number of the event.
 ghost use Rattle.std.specs.Prelude.{[], ◌∷◌, replicate};
 ghost use Rattle.gathered_out.specs.Pieces.{piece};
 ghost use Rattle.gathered_out.specs.Puts.{Puts, sink_state};
@@ -15,8 +15,8 @@ use gathered_out::Gathered;
 use gpu_capture::{Event, record_bytes};
 use ot_clear_dma::Ram;
 
-/// Puts the records of a work, by main memory. The answer to a failure is the number of the event whose record lacks a
-/// byte.
+/// Adds the records of an operation to the buffer. `ram`: main memory. On failure, returns the number of the first
+/// event whose record is incomplete.
 pub(crate) fn spell_work<K: Sink>(
     number: u64,
     gathered: &mut Gathered,
@@ -42,7 +42,7 @@ pub(crate) fn spell_work<K: Sink>(
     }
 }
 
-// Puts the record of an event.
+// Adds the record of an event.
 fn spell_one<K: Sink>(
     number: u64,
     gathered: &mut Gathered,
@@ -56,7 +56,7 @@ fn spell_one<K: Sink>(
     gathered.put(number, record_bytes(&event).as_slice(), out)
 }
 
-// Puts the records of reads that are not shown.
+// Adds the records of `n` reads that are not shown.
 fn spell_skips<K: Sink>(
     number: u64,
     gathered: &mut Gathered,
@@ -76,7 +76,7 @@ fn spell_skips<K: Sink>(
     Ok(())
 }
 
-// Puts the records of words that go to GP0.
+// Adds the records of words written to GP0.
 fn spell_words<K: Sink>(
     number: u64,
     gathered: &mut Gathered,

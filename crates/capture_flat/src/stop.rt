@@ -1,4 +1,4 @@
-// A flat capture ends, behind what is gathered for it.
+// Ends a flat capture, after its buffer is flushed.
 ghost use Rattle.std.specs.Prelude.{◌≤◌, ◌⊎◌};
 ghost use Rattle.dev_io.specs.Device.{Rose, Writes, side};
 ghost use Rattle.gpu_capture.specs.Reader.{IsReadFault};
@@ -13,7 +13,8 @@ use dev_io::{Failed, Sink};
 use gathered_out::Gathered;
 use gpu_capture::{Stop, write_end, write_start};
 
-/// Ends so, behind what is gathered: that is written before, unless a write has failed already.
+/// Flushes the buffer and returns `ending`. If the flush fails, returns `WriteFailed`. If `ending` is `WriteFailed`,
+/// writes nothing. `ending` must not be a fault of the source.
 pub(crate) fn end_behind<K: Sink>(
     ending: FlatEnding,
     gathered: &mut Gathered,
@@ -34,7 +35,8 @@ pub(crate) fn end_behind<K: Sink>(
     }
 }
 
-/// Ends at a stop of the reader, behind so many events: what is gathered is written before.
+/// Flushes the buffer, then ends at a stop of the reader after `played` events. The version of the file must be at most
+/// 3.
 pub(crate) fn end_reading<K: Sink>(
     stop: Stop,
     draft: &mut Draft,
@@ -54,7 +56,7 @@ pub(crate) fn end_reading<K: Sink>(
     }
 }
 
-// Ends at a stop of the reader, behind so many events, where nothing is gathered.
+// Ends at a stop of the reader after `played` events, with an empty buffer. If it is `End`, writes the output of End.
 fn finish<K: Sink>(stop: Stop, version: u8, played: u64, out: &mut K) -> FlatEnding
     requires { version ≤ 3 }
     ensures ends { StopsAs stop (next_number played) result }
@@ -74,7 +76,7 @@ fn finish<K: Sink>(stop: Stop, version: u8, played: u64, out: &mut K) -> FlatEnd
     }
 }
 
-// Writes what is due behind the last event.
+// Writes the output of End: the file header if no event was played, then the End record.
 fn write_last<K: Sink>(out: &mut K, version: u8, played: u64) -> Result<(), Failed>
     requires { version ≤ 3 }
     ensures { Writes (side K.held K.faults) out.old out.new (end_due version played) result }
@@ -83,7 +85,7 @@ fn write_last<K: Sink>(out: &mut K, version: u8, played: u64) -> Result<(), Fail
     write_end(out)
 }
 
-// Writes the head, if no event was played.
+// Writes the file header if no event was played.
 fn write_head<K: Sink>(out: &mut K, version: u8, played: u64) -> Result<(), Failed>
     requires { version ≤ 3 }
     ensures { Writes (side K.held K.faults) out.old out.new (head_due version played) result }

@@ -1,4 +1,4 @@
-// A whole capture is read, played and written.
+// Reads, plays and writes a whole capture.
 ghost use Rattle.std.specs.Prelude.{◌≡◌, ◌≤◌, [], map};
 ghost use Rattle.dev_io.specs.Device.{Rose};
 ghost use Rattle.event_play.specs.Replay.{Tale, from_state, raised};
@@ -20,21 +20,23 @@ use gpu_taps::Listener;
 use std::sync::ledger::Ledger;
 use vram_store::Steps;
 
-/// The version whose captures are played in the tall profile.
+/// Captures of this version are played in the tall profile (1024 rows of video memory).
 const TALL_VERSION: u8 = 3;
 
-/// Plays a capture on a new rig, and writes the capture of its flat events: of version 3 where the capture's is 3, else
-/// of version 2. An event is played first, and then its records are judged and put behind those before. The words of a
-/// record that are at hand are played at once, as many as have records for which there is surely room, and then these
-/// are put, an event each. It takes no memory.
+/// Plays a capture on a rig that has played no event, and writes the capture of its flat events. The output has version
+/// 3 if the capture has, otherwise version 2. An event is played before its records are added. The words of a Gp0
+/// record that are at hand are played as one block, as long as their records fit. Allocates no memory.
 ///
-/// Records are gathered, up to 4,096 bytes, and written together: where there is no room for one more, before a read
-/// that may have to wait, and before every ending. So a write that fails may show at a later event, and is still that
-/// of the event whose records lack a byte. At most 4,112 bytes of the capture are taken behind that event.
+/// The file header is the output of the first event, or of End if there is no event. Records are buffered, up to 4,096
+/// bytes. The buffer is flushed if a record does not fit, before a read that may wait, after 4,096 bytes of input, and
+/// before every ending.
 ///
-/// After every ending all that was due before it stands. The head is due at the first event, or with the End record
-/// where there is none. After Done the file is whole: read as a capture it uses the ports alone, shows the same words,
-/// and leads to the same status word and the same video memory. The rig is the state after all events that were played.
+/// A write may fail while a later event is processed. The error still names the first event whose output is incomplete.
+/// By then, at most 4,112 bytes after that event were read. Before any other ending, all earlier output was written.
+/// The rig is as after all events that were played.
+///
+/// After `Done` the file is a whole capture that uses only the ports. It shows the same words, and leads to the same
+/// status word and the same video memory.
 pub fn flat<S: Source, K: Sink, T: Listener, L: Ledger>(
     rig: &mut Rig,
     source: &mut S,
@@ -43,7 +45,7 @@ pub fn flat<S: Source, K: Sink, T: Listener, L: Ledger>(
     steps: &mut Steps<L>,
 ) -> FlatEnding
     requires { rig.old.played ≡ 0 }
-    // For every state for which the rig stood, this is how the flat capture made from it ends.
+    // For every machine that agrees with the rig, flattening the capture from it ends like this.
     ensures ends { (s : Machine) → Stands rig.old s → EndsFlat (from_state s 0)
         (streams (S.left source.old) (K.held out.old) (map T.heard taps.old.items) steps.old)
         (streams (S.left source.new) (K.held out.new) (map T.heard taps.new.items) steps.new) rig.new result }
@@ -93,7 +95,7 @@ pub fn flat<S: Source, K: Sink, T: Listener, L: Ledger>(
     }
 }
 
-// The file of a capture of this version, of which nothing is gathered yet.
+// Returns the empty file for a capture of this version.
 fn first_draft(version: u8) -> Draft
     ensures file { result.file ≡ record { version = version; size = 0 } }
     ensures gathered { result.gathered ≡ [] }
@@ -104,7 +106,7 @@ fn first_draft(version: u8) -> Draft
     }
 }
 
-// Takes on the profile in which captures of this version are played.
+// Changes to the tall profile if captures of `version` are played in it.
 fn raise(rig: &mut Rig, version: u8)
     ensures { (t : Tale) → StandsFor rig.old t → StandsFor rig.new (raised t version) }
 {

@@ -12,7 +12,7 @@ use Rattle.gpu_core.specs.Machine.{Parts, effect_of}
 use Rattle.prim_draw.specs.Draw.{drawn_packet}
 use Rattle.dead_drawing.specs.Dead.{is_droppable}
 
--- which of the three it is
+-- which kind of droppable packet this first word starts
 pub data Shape (word : ℕ) : Type 0 where
   polygon : class_of word ≡ 1 → is_set word 26 ≡ false → Shape word
   rectangle : class_of word ≡ 3 → is_set word 26 ≡ false → Shape word
@@ -59,13 +59,13 @@ pub shape_of : (word : ℕ) → is_droppable word ≡ true → Shape word
 unfolding is_droppable
 shape_of word is = shape_by word _ _ _ _ _ refl refl refl refl refl is
 
--- it is one item
+-- The packet is one item of `first_len_of word` words.
 pub plain_kind : (word : ℕ) → Shape word → kind_of word ≡ Plain (first_len_of word)
 plain_kind word (polygon class plain) = rw class refl
 plain_kind word (rectangle class plain) = rw class refl
 plain_kind word (line class single) = rw (class, single) refl
 
--- it draws without texture, and leaves the registers
+-- The packet only draws: it changes no register and no transfer.
 pub record DrawsOnly (p : Parts) (what : Packet) : Type 0 where
   pub is : effect_of p what ≡ record p { m = drawn_packet p.regs what p.m }
 
@@ -97,7 +97,7 @@ whole_draws p height words (polygon class plain) = rw class (polygon_draws p wor
 whole_draws p height words (rectangle class plain) = rw class (rectangle_draws p words)
 whole_draws p height words (line class single) = rw class (line_draws p words)
 
--- the item that its words are
+-- the packet that these words are
 pub packet_is : (height : ℕ) (words : List ℕ) → length words ≡ first_len_of (slice_index words 0)
     → packet_of height (Whole words) ≡ whole_of height words
 packet_is height words whole =

@@ -1,4 +1,4 @@
--- What packets do, in two states that agree but for some cells.
+-- What packets do in two states that agree except in some cells.
 use Rattle.std.proofs.Common.{◌≡◌, ◌*◌, ◌+◌, ◌%◌, ℕ, zero, suc, List, [], ◌∷◌, Option, None, Some, true, false, length}
 use Rattle.std.proofs.Common.{inl, inr, refl, sym, ap, ◌∙◌, subst}
 use Rattle.std.proofs.lemmas.Grind.{same_number_lists}
@@ -28,7 +28,7 @@ use Rattle.dead_drawing.proofs.Moves.{keeps_all, fill_same, fill_makes, load_sam
 
 -- ---- two states alike
 
--- one of them is the other with its own cells
+-- One of them is the other with its own cells.
 as_with : (among : ℕ → Type 0) (p q : Parts) → PartsAlike among p q → record p { m = q.m } ≡ q
 as_with among p q h =
     ap (λ (r : Registers). record { m = q.m; regs = r; load = p.load; store = p.store }) (sym h.regs)
@@ -91,7 +91,7 @@ effect_with among p now packet.Irq calm a = record { cells = a; regs = refl; loa
 effect_with among p now packet.Nop calm a = record { cells = a; regs = refl; load = refl; store = refl }
 effect_with among p now packet.Finish calm a = record { cells = a; regs = refl; load = refl; store = refl }
 
--- a packet that reads no other cells leaves states alike
+-- After a packet that reads no other cells, alike states are alike.
 pub effect_alike : (among : ℕ → Type 0) (p q : Parts) (what : Packet) → IsCalm what → PartsAlike among p q
     → PartsAlike among (effect_of p what) (effect_of q what)
 effect_alike among p q what calm h =
@@ -109,7 +109,7 @@ same_cells m now a = same_number_lists now m a.count (λ k lt. elim (a.others k)
 pub parts_same : (p q : Parts) → PartsAlike (λ k. ⊥) p q → q ≡ p
 parts_same p q h = sym (as_with (λ k. ⊥) p q h) ∙ ap (λ (m : List ℕ). record p { m = m }) (same_cells p.m q.m h.cells)
 
--- a fill whose area holds all cells that may differ leaves none
+-- A fill whose area contains all cells that may differ leaves no difference.
 covered_with : (among : ℕ → Type 0) (p : Parts) (now : List ℕ) (color x y w h : ℕ)
     → ((k : ℕ) → among k → IsIn (moved_box x y w h) k) → length p.m % 1024 ≡ 0
     → AgreeBut among p.m now

@@ -1,4 +1,4 @@
--- Events, in two states that agree but for some cells.
+-- Events in two states that agree except in some cells.
 use Rattle.std.proofs.Common.{◌≡◌, ℕ, List, [], ◌∷◌, ◌++◌, Option, None, Some, is_some, Bool, true, false, cond}
 use Rattle.std.proofs.Common.{length, refl, sym, ap, ◌∙◌, subst}
 use Rattle.gp0_words.specs.Items.{pending_behind}
@@ -22,7 +22,7 @@ use Rattle.dead_drawing.proofs.Effects.{effect_alike, effect_long}
 
 -- ---- words
 
--- the item that a word completes hangs on what is pending alone
+-- The item that a word completes depends only on what is pending.
 pub new_is : (words : List ℕ) (word : ℕ) → new_item words word ≡ next_item (pending_behind words) word
 new_is words word = new_item-is words word (next_item (pending_behind words) word) (items_of-push words word)
 
@@ -87,7 +87,7 @@ gp1_alike among s t word h = by_test (is_clearing word)
       rest = h.rest;
     }
 
--- the status word tells no cell
+-- The status word does not depend on any cell.
 pub same_status : (s t : State) → t.parts.regs ≡ s.parts.regs → t.parts.store ≡ s.parts.store
     → pending_behind t.words ≡ pending_behind s.words → status_word t ≡ status_word s
 unfolding status_word is_idle_state
@@ -136,7 +136,7 @@ told_alike among s t (e ∷ events) calm h =
     ∙ ap (λ (ns : List ℕ). shown_at s e ++ ns)
     (told_alike among (after s e) (after t e) events calm.1 (event_alike among s t e calm.0 h))
 
--- ---- nobody sees the difference
+-- ---- the difference is never seen
 
 event_same : (s t : State) (e : Event) → Same s t → Same (after s e) (after t e)
 unfolding after after_gp0 after_gp1 after_read

@@ -121,7 +121,7 @@ calm_item : (height : ℕ) (item : Option Item) → is_calm_by height item ≡ t
 calm_item height None e = tt
 calm_item height (Some item) e = calm_packet (packet_of height item) e
 
--- a control and the state that goes its way have one height
+-- A control and a state that agrees with it have the same height.
 height_is : (c : Control) (s : State) → Tracks c s → s.parts.regs.height ≡ c.regs.height
 height_is c s h = ap (λ (r : Registers). r.height) h.regs
 
@@ -141,7 +141,7 @@ calm_at c s event.Turn h f = absurd cc
 
 -- ---- what covers a box
 
--- the first events of a list cover a box
+-- The first events of a list cover a box.
 pub record BeginsCovered (s : State) (events : List Event) (b : Box2) : Type 0 where
   pub first : List Event
   pub rest : List Event

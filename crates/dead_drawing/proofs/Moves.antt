@@ -1,4 +1,4 @@
--- Fills and loads, in two states of video memory.
+-- Fills and loads in two states of video memory.
 use Rattle.std.proofs.Common.{◌≡◌, ◌<◌, ◌≤◌, ◌+◌, ◌-◌, ◌*◌, ◌/◌, ◌%◌, ◌||◌, eqb, ℕ, pos, List, [], ◌∷◌}
 use Rattle.std.proofs.Common.{None, Some, Bool}
 use Rattle.std.proofs.Common.{true, false, cond, length, get_or, slice_set, inl, inr, refl, sym, ap, ◌∙◌, subst, arith}
@@ -27,7 +27,7 @@ past_same m now e = record {
       ∙ sym (get_or_past m (length m) 0 (omega arith));
 }
 
--- what keeps each cell the same keeps states alike
+-- If each equal cell stays equal, alike states stay alike.
 pub keeps_all : (among : ℕ → Type 0) (m now new new_now : List ℕ) → ((k : ℕ) → SameAt k m now → SameAt k new new_now)
     → AgreeBut among m now → AgreeBut among new new_now
 keeps_all among m now new new_now keeps a = record {
@@ -52,7 +52,7 @@ rows_same height k first size color m now same =
     each_same (SameAt k) (λ j cells. filled_row cells (down height first j) size.w color) size.h m now same
     (λ j a b s. row_same k (down height first j) size.w color a b s)
 
--- the height that two states have
+-- Two states with the same number of cells have the same height.
 at_height : (k : ℕ) (first : Cell) (size : Size) (color : ℕ) (m now : List ℕ) → length now ≡ length m
     → SameAt k (filled_rows (height_of m) m first size color) (filled_rows (height_of m) now first size color)
     → SameAt k (filled_rectangle m first size color) (filled_rectangle now first size color)
@@ -66,7 +66,7 @@ pub fill_same : (k : ℕ) (first : Cell) (size : Size) (color : ℕ) (m now : Li
 fill_same k first size color m now same = at_height k first size color m now same.count
     (rows_same (height_of m) k first size color m now same)
 
--- as many cells
+-- both have the same number of cells
 abbrev AsMany : List ℕ → List ℕ → Type 0
 AsMany m now = length now ≡ length m
 
@@ -91,7 +91,7 @@ set_here k p color m now here e = record {
       ]);
 }
 
--- column i of a row is this cell
+-- column i of a row is cell k
 row_makes : (k : ℕ) (first : Cell) (w i color : ℕ) (m now : List ℕ) → i < w → 1024 * first.y + (right first i).x ≡ k
     → AsMany m now → SameAt k (filled_row m first w color) (filled_row now first w color)
 row_makes k first w i color m now lt here e =
@@ -100,7 +100,7 @@ row_makes k first w i color m now lt here e =
     (λ a b h. set_here k (1024 * first.y + (right first i).x) color a b here h)
     (λ i a b h. set_same k (1024 * first.y + (right first i).x) color a b h)
 
--- a cell of the rectangle, by its column and row
+-- cell k is in column i and row j of the rectangle
 rows_make : (height k : ℕ) (first : Cell) (size : Size) (i j color : ℕ) (m now : List ℕ) → i < size.w → j < size.h
     → 1024 * (down height first j).y + (right first i).x ≡ k → AsMany m now
     → SameAt k (filled_rows height m first size color) (filled_rows height now first size color)
@@ -110,7 +110,7 @@ rows_make height k first size i j color m now lt lu here e =
     (λ a b s. row_makes k (down height first j) size.w i color a b lt here s)
     (λ j a b s. row_same k (down height first j) size.w color a b s)
 
--- a cell in a rectangle whose corners aren't wrapped
+-- cell k is in a rectangle that does not wrap
 pub record IsWithin (x y w h k : ℕ) : Type 0 where
   pub left : x ≤ k % 1024
   pub right : k % 1024 < x + w
@@ -139,7 +139,7 @@ within_of x y w h k within = within_by x y w h k (eqb w 0) (eqb h 0) refl refl w
 wrapped : (height row : ℕ) → row < height → row % height ≡ row
 wrapped height row lt = mod-eq_of_lt lt
 
--- a fill leaves every cell of its area the same
+-- A fill makes every cell of its area equal in both states.
 pub fill_makes : (k : ℕ) (first : Cell) (size : Size) (color : ℕ) (m now : List ℕ) → AsMany m now
     → length m % 1024 ≡ 0 → IsIn (moved_box first.x first.y size.w size.h) k
     → SameAt k (filled_rectangle m first size color) (filled_rectangle now first size color)

@@ -56,7 +56,7 @@ unfolding shown_at
 words_tell s [] = refl
 words_tell s (w ∷ ws) = words_tell (after s (event.Gp0 w)) ws
 
--- ---- a packet changes its area alone
+-- ---- a packet changes only its area
 
 flipped : (among : ℕ → Type 0) (m now : List ℕ) → AgreeBut among m now → AgreeBut among now m
 flipped among m now a = record {
@@ -78,7 +78,7 @@ drawn_alike p q what is = subst (λ (r : Parts). PartsAlike (IsIn (area_of p.reg
       store = refl;
     })
 
--- with the packet and without it
+-- The state after the packet and the state without it agree outside of its area.
 pub dropped_alike : (s : State) (words : List ℕ) → IsDroppable words → pending_behind s.words ≡ pending.Idle
     → Alike (IsIn (area_of s.parts.regs (whole_of s.parts.regs.height words))) (run s (map event.Gp0 words)) s
 dropped_alike s words d idle =
@@ -123,7 +123,7 @@ covers_same s t word area c whole h =
       rest = same_rest s.words t.words word h.rest;
     }
 
--- the same behind what follows a packet
+-- After these events, the two states are the same, and the same words were shown.
 pub record IsGone (s t : State) (events : List Event) : Type 0 where
   pub states : Same (run s events) (run t events)
   pub shown : told t events ≡ told s events
@@ -166,7 +166,7 @@ gone s words (e ∷ b) d whole idle unseen =
 
 -- ---- whole lists
 
--- what is seen of a list, by its parts
+-- the visible results of a list, by its two parts
 pub seen_append : (s : State) (shown : List ℕ) (a b : List Event)
     → seen s shown (a ++ b) ≡ seen (run s a) (shown ++ told s a) b
 seen_append s shown a b =

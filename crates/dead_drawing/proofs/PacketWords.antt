@@ -18,7 +18,7 @@ use Rattle.gpu_core.specs.Machine.{Parts, State, after_gp0, effect_of, after_ite
 use Rattle.dead_drawing.specs.Run.{after, run}
 use Rattle.dead_drawing.proofs.Events.{new_is}
 
--- what is pending behind the first words of a packet
+-- what is pending after the first words of a packet
 abbrev pub held_of : List ℕ → Pending
 held_of [] = pending.Idle
 held_of (w ∷ ws) = pending.Packet (w ∷ ws)
@@ -37,7 +37,7 @@ pub held_more : (done : List ℕ) (w : ℕ) → pending.Packet (done ++ w ∷ []
 held_more [] w = refl
 held_more (x ∷ xs) w = refl
 
--- the state that a packet of one item leaves
+-- the state after a packet that is one item
 pub record IsFed (s : State) (words : List ℕ) (now : State) : Type 0 where
   pub parts : now.parts ≡ effect_of s.parts (packet_of s.parts.regs.height (Whole words))
   pub rest : pending_behind now.words ≡ pending.Idle
@@ -66,7 +66,7 @@ fed_last s n done w kind whole held = record {
       ∙ ap (λ (k : Kind). collected_pending k (done ++ w ∷ [])) kind ∙ last_pending n (done ++ w ∷ []) whole;
 }
 
--- a word that isn't the last one
+-- the state after words of a packet that do not complete it
 record IsBegun (s : State) (done : List ℕ) (now : State) : Type 0 where
   parts : now.parts ≡ s.parts
   rest : pending_behind now.words ≡ held_of done
@@ -109,7 +109,7 @@ fed_more s n done w (v ∷ ws) kind whole held =
       rest = fed.rest;
     }
 
--- a whole packet, from a state in which nothing is pending
+-- a whole packet, from a state with nothing pending
 pub packet_fed : (s : State) (n : ℕ) (words : List ℕ) → kind_of (slice_index words 0) ≡ Plain n → length words ≡ n
     → 0 < n → pending_behind s.words ≡ pending.Idle
     → IsFed s words (run s (map event.Gp0 words))

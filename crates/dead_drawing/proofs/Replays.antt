@@ -1,4 +1,4 @@
--- What is seen of a replay of events of the ports.
+-- The visible results of a replay of events of the ports.
 use Rattle.std.proofs.Common.{◌≡◌, ℕ, List, [], ◌∷◌, ◌++◌, sym, ap, ◌∙◌, append_assoc, append-nil}
 use Rattle.gpu_capture.specs.declared.event.Event.{Event}
 use Rattle.gpu_capture.specs.declared.event.Event.TheVariants as event
@@ -12,7 +12,7 @@ use Rattle.event_play.specs.declared.ending.Ending.{Ending}
 use Rattle.event_play.specs.declared.ending.Ending.TheVariants.{Done}
 use Rattle.dead_drawing.specs.Run.{after, shown_at, run, told}
 
--- how a replay ended, the words that it showed, and the status word and the cells that it left
+-- how a replay ended, the words that it showed, and the final status word and cells
 pub record Outcome : Type 0 where
   pub ending : Ending
   pub shown : List ℕ
@@ -27,15 +27,15 @@ outcome_of r = record {
   cells = r.tale.state.gpu.parts.m;
 }
 
--- of a state and the words shown up to it
+-- the result at a state, with the words shown up to it
 abbrev pub outcome_at : List ℕ → State → Outcome
 outcome_at shown s = record { ending = Done; shown = shown; status = status_word s; cells = s.parts.m }
 
--- of events from a state on, with these words shown before
+-- the result of events from a state on, with these words shown before
 abbrev pub seen : State → (shown : List ℕ) → List Event → Outcome
 seen s shown events = outcome_at (shown ++ told s events) (run s events)
 
--- the same outcome is the same to all that look at it
+-- Replays with the same result are alike.
 pub alike_by : (a b : Played) → outcome_of a ≡ outcome_of b → AreAlike a.tale b.tale
 alike_by a b e = record {
   shown = ap (λ (o : Outcome). o.shown) e;
@@ -47,7 +47,7 @@ step_on : (s : State) (shown one : List ℕ) (events : List Event)
     → seen s (shown ++ one) events ≡ outcome_at (shown ++ (one ++ told s events)) (run s events)
 step_on s shown one events = ap (λ ns. outcome_at ns (run s events)) (append_assoc shown one (told s events))
 
--- events of the ports have no fault
+-- Events of the ports have no fault.
 pub replay_is : (events : List Event) (t : Tale) → AreAtPorts events
     → outcome_of (played_events t events End []) ≡ seen t.state.gpu t.shown events
 unfolding event_step after shown_at

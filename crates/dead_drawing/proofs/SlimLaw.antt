@@ -42,7 +42,7 @@ use Rattle.dead_drawing.proofs.Replays.{outcome_at, seen}
 use Rattle.dead_drawing.proofs.Tracks.{Tracks, event_tracks, run_tracks}
 use Rattle.dead_drawing.proofs.PacketLaw.{gone, seen_gone}
 
--- ---- a packet leaves the control as it was
+-- ---- a packet does not change the control
 
 pub control_last : (c : Control) (n : ℕ) (done : List ℕ) (w : ℕ) → kind_of (slice_index (done ++ w ∷ []) 0) ≡ Plain n
     → length (done ++ w ∷ []) ≡ n → c.pending ≡ held_of done
@@ -147,7 +147,7 @@ control_stays words c d idle =
 
 -- ---- dropping one packet
 
--- the area of a packet hangs on no latch
+-- The area of a packet does not depend on the latch.
 area_latch : (r : Registers) (latch : ℕ) (what : Packet) → area_of (record r { held = latch }) what ≡ area_of r what
 unfolding area_of polygon_area triangle_box segment_box rectangle_box extent_at placed drawing_area
 area_latch r latch (packet.Poly four a b c d shaded textured semi raw clut page) = refl
@@ -168,7 +168,7 @@ area_but_latch : (r now : Registers) (words : List ℕ) → now ≡ record r { h
 area_but_latch r now words e =
     ap (λ (q : Registers). area_of q (whole_of q.height words)) e ∙ area_latch r now.held (whole_of r.height words)
 
--- what hides a packet follows it at once, or nothing has to
+-- The first events after the packet hide it, or it draws nothing.
 pub record IsGoneBefore (s : State) (words : List ℕ) (behind : List Event) : Type 0 where
   pub first : List Event
   pub rest : List Event
@@ -229,13 +229,13 @@ seen_next s shown e events =
     ap (λ ns. outcome_at ns (run (after s e) events))
     (sym (append_assoc shown (shown_at s e) (told (after s e) events)))
 
--- a list is the same to all that look at it
+-- For lists of at most n events, leaving out the dead packets changes no visible result.
 abbrev Seen : ℕ → Type 0
 Seen n = (events : List Event) (c : Control) (s : State) (shown : List ℕ) → length events ≤ n → Tracks c s
     → length s.parts.m % 1024 ≡ 0
     → seen s shown (slim_from events c 0) ≡ seen s shown events
 
--- the words of a dead packet are skipped, and the control is as before
+-- The words of a dead packet are skipped, and the control after them is that before them.
 dead_skipped : (c : Control) (e : Event) (events : List Event) (k : ℕ) (d : IsDeadFront c (e ∷ events) (suc k))
     → slim_from events (controlled c e) k ≡ slim_from (drop (length d.words) (e ∷ events)) c 0
 dead_skipped c e events k d =

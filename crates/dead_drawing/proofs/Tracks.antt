@@ -1,4 +1,4 @@
--- The control of a state goes its way whatever the cells are.
+-- The control of a state changes in the same way whatever the cells are.
 use Rattle.std.proofs.Common.{◌≡◌, ◌==◌, ◌&&◌, leb, ℕ, List, [], ◌∷◌, Option, None, Some, Bool, true, false, cond}
 use Rattle.std.proofs.Common.{refl, sym, ap, ◌∙◌, subst}
 use Rattle.gp0_words.specs.Items.{pending_behind}
@@ -21,7 +21,7 @@ use Rattle.dead_drawing.specs.Control.{Control, regs_after, regs_by, controlled,
 use Rattle.dead_drawing.specs.Run.{after, run}
 use Rattle.dead_drawing.proofs.Events.{new_is}
 
--- registers that are the same but for the latch
+-- The registers are the same except for the latch.
 abbrev pub IsButLatch : Registers → Registers → Type 0
 IsButLatch r now = now ≡ record r { held = now.held }
 

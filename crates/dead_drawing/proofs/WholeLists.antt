@@ -20,7 +20,7 @@ use Rattle.dead_drawing.proofs.Replays.{Outcome, outcome_of, alike_by, replay_is
 use Rattle.dead_drawing.proofs.SlimLaw.{slim_ports, slim_seen}
 use Rattle.dead_drawing.proofs.Tracks.{Tracks}
 
--- a state at the start of a capture: a reset control goes its way, and it has whole rows
+-- a state at the start of a capture: it agrees with the control after a reset, and has whole rows
 pub record Starts (height : ℕ) (s : State) : Type 0 where
   pub tracks : Tracks (first_control height) s
   pub rows : length s.parts.m % 1024 ≡ 0
@@ -40,7 +40,7 @@ first_starts = record {
   rows = ap (λ (n : ℕ). n % 1024) blank_long;
 }
 
--- rows of zeros behind whole rows are whole rows
+-- Whole rows followed by rows of zeros are whole rows.
 tall_rows : (m : List ℕ) → length m % 1024 ≡ 0 → length (tall m) % 1024 ≡ 0
 unfolding tall
 tall_rows m rows =
@@ -58,7 +58,7 @@ starts true = record {
 }
 starts false = first_starts
 
--- from a machine that stands at the start
+-- from a machine at the start of a capture
 slim_from_start : (height : ℕ) (machine : Machine) (events : List Event) → Starts height machine.gpu
     → AreAtPorts events
     → outcome_of (replay_of machine (slim_events height events)) ≡ outcome_of (replay_of machine events)

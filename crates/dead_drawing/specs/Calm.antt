@@ -1,4 +1,4 @@
--- Events that read no cell of video memory but to change that one.
+-- Events that read no cell of video memory except to change that cell.
 use Rattle.std.specs.Prelude.{ℕ, List, [], ◌∷◌, Option, None, Some}
 use Rattle.gp0_words.specs.declared.item.Item.{Item}
 use Rattle.gp0_packets.specs.Packets.{packet_of}
@@ -21,7 +21,7 @@ abbrev pub IsCalmItem : (height : ℕ) → Option Item → Type 0
 IsCalmItem height None = Unit {0}
 IsCalmItem height (Some item) = IsCalm (packet_of height item)
 
--- an event that is no read, and completes nothing that reads other cells
+-- The event is no read of GPUREAD, and completes no item that reads other cells.
 abbrev pub IsCalmAt : State → Event → Type 0
 IsCalmAt s (event.Gp0 word) = IsCalmItem s.parts.regs.height (new_item s.words word)
 IsCalmAt s (event.Gp1 word) = Unit {0}

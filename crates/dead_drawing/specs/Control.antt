@@ -1,4 +1,4 @@
--- What decides which packets come and where they draw: the registers and what is pending. No cell is in it.
+-- What decides which packets follow and where they draw: the registers and what is pending, but no cell.
 use Rattle.std.specs.Prelude.{ℕ, true, List, [], ◌∷◌, Option, Some, None, if◌then◌else◌}
 use Rattle.gp0_words.specs.Next.{next_item, next_pending}
 use Rattle.gp0_words.specs.declared.item.Item.{Item}
@@ -12,7 +12,7 @@ use Rattle.gpu_capture.specs.declared.event.Event.{Event}
 use Rattle.gpu_capture.specs.declared.event.Event.TheVariants as event
 use Rattle.gpu_core.specs.Machine.{with_page}
 
--- the registers but for the latch, which reads of video memory change, and what is pending
+-- the registers and what is pending; the latch, which reads of video memory change, is ignored
 pub record Control : Type 0 where
   pub regs : Registers
   pub pending : Pending

@@ -1,6 +1,5 @@
--- Drawing that nobody sees: a packet that draws nothing, or whose cells a later fill covers before anything reads
--- them
--- (our own rule).
+-- Drawing that is never seen: a packet that draws nothing, or whose cells a later fill covers before anything reads
+-- them (our own rule).
 use Rattle.std.specs.Prelude.{ℕ, zero, suc, ◌+◌, ◌-◌, ◌==◌, ◌&&◌, ◌||◌, Bool, true, false, not, List, [], ◌∷◌}
 use Rattle.std.specs.Prelude.{Option, Some, None, if◌then◌else◌, length, drop, map}
 use Rattle.std.specs.Int.Signed.{le_z}
@@ -17,11 +16,11 @@ use Rattle.gpu_core.specs.Machine.{is_idle}
 use Rattle.prim_draw.specs.Areas.{area_of, moved_box}
 use Rattle.dead_drawing.specs.Control.{Control, controlled, controls}
 
--- a fill may stand so many events behind the first word of a packet that it covers
+-- the most events from the first word of a packet to the last word of a fill that covers it
 abbrev pub window_events : ℕ
 window_events = 4096
 
--- the first word of a polygon or rectangle without texture, or of one line
+-- the first word of a polygon or rectangle without texture, or of a single line
 unfoldable pub is_droppable : ℕ → Bool
 is_droppable word =
     ((class_of word == 1 || class_of word == 3) && not (is_set word 26)) ||
@@ -29,7 +28,7 @@ is_droppable word =
 
 -- ---- a later fill
 
--- a box holds another
+-- a box contains another
 unfoldable pub holds_box : Box2 → Box2 → Bool
 holds_box outer inner =
     (le_z outer.x1 inner.x1 && le_z outer.y1 inner.y1) && (le_z inner.x2 outer.x2 && le_z inner.y2 outer.y2)
@@ -38,12 +37,12 @@ abbrev pub holds_in : Option Box2 → Box2 → Bool
 holds_in None inner = false
 holds_in (Some outer) inner = holds_box outer inner
 
--- a fill whose area holds a box
+-- a fill whose area contains a box
 abbrev pub fills : Packet → Box2 → Bool
 fills (packet.Fill color x y w h) area = holds_in (moved_box x y w h) area
 fills other area = false
 
--- it samples no texture, and is no copy and no store
+-- the packet samples no texture and is no copy and no store
 abbrev pub is_calm : Packet → Bool
 is_calm (packet.Poly four a b c d shaded textured semi raw clut page) = not textured
 is_calm (packet.Rect x y w h color textured semi raw u v clut) = not textured
@@ -59,19 +58,19 @@ abbrev pub is_calm_by : (height : ℕ) → Option Item → Bool
 is_calm_by height None = true
 is_calm_by height (Some item) = is_calm (packet_of height item)
 
--- the event completes a fill whose area holds a box
+-- the event completes a fill whose area contains a box
 abbrev pub fills_at : Control → Event → Box2 → Bool
 fills_at c (event.Gp0 word) area = fills_by c.regs.height (next_item c.pending word) area
 fills_at c other area = false
 
--- the event is no read, and completes nothing that reads video memory elsewhere
+-- the event is no read of GPUREAD, and completes no item that reads other cells
 abbrev pub is_calm_at : Control → Event → Bool
 is_calm_at c (event.Gp0 word) = is_calm_by c.regs.height (next_item c.pending word)
 is_calm_at c (event.Gp1 word) = true
 is_calm_at c event.Stat = true
 is_calm_at c other = false
 
--- one of the first n events completes a fill whose area holds a box, and those before it are calm
+-- one of the first n events completes a fill whose area contains a box, and those before it read no other cells
 abbrev pub is_covered : List Event → Control → ℕ → Box2 → Bool
 is_covered [] c n area = false
 is_covered (e ∷ events) c zero area = false
@@ -84,25 +83,25 @@ abbrev pub word_before : ℕ → Option (List ℕ) → Option (List ℕ)
 word_before word None = None
 word_before word (Some words) = Some (word ∷ words)
 
--- the first n events as words of GP0, if they all are
+-- the words of the first n events if all of these are Gp0 events
 abbrev pub words_of : ℕ → List Event → Option (List ℕ)
 words_of zero events = Some []
 words_of (suc n) [] = None
 words_of (suc n) (event.Gp0 word ∷ events) = word_before word (words_of n events)
 words_of (suc n) (other ∷ events) = None
 
--- the words of a packet that begins here, draws without texture and stands in consecutive events
+-- the words of a droppable packet if one starts at the first event and its words are consecutive events
 abbrev pub front : Control → List Event → Option (List ℕ)
 front c (event.Gp0 word ∷ events) =
     if is_idle c.pending && is_droppable word then words_of (first_len_of word) (event.Gp0 word ∷ events) else None
 front c other = None
 
--- no cell, or covered by one of the next n events
+-- the area is empty, or one of the next n events covers it
 abbrev pub is_hidden : Option Box2 → List Event → Control → ℕ → Bool
 is_hidden None behind c n = true
 is_hidden (Some area) behind c n = is_covered behind c n area
 
--- a packet of these words at the front of the events is dead
+-- the packet of these words, at the front of the events, is dead
 abbrev pub is_dead : Control → List Event → List ℕ → Bool
 is_dead c events words =
     is_hidden (area_of c.regs (whole_of c.regs.height words)) (drop (length words) events)
@@ -112,6 +111,6 @@ abbrev pub dead_words : Control → List Event → Option (List ℕ) → ℕ
 dead_words c events None = 0
 dead_words c events (Some words) = if is_dead c events words then length words else 0
 
--- the number of words of a dead packet at the front, and 0 where there is none
+-- the number of words of the dead packet at the front of the events, or 0 if there is none
 unfoldable pub dead_len : Control → List Event → ℕ
 dead_len c events = dead_words c events (front c events)

@@ -9,7 +9,7 @@ use Rattle.event_play.specs.Step.{Machine, first_machine, tall_machine}
 use Rattle.event_play.specs.declared.ending.Ending.TheVariants.{Done}
 use Rattle.dead_drawing.specs.Slim.{slim_events}
 
--- the rows that a capture of this version is played with
+-- the number of rows of video memory for captures of this version
 abbrev pub height_for : (version : ℕ) → ℕ
 height_for version = if version == tall_version then tall_height else 512
 
@@ -17,9 +17,8 @@ height_for version = if version == tall_version then tall_height else 512
 abbrev pub machine_for : (version : ℕ) → Machine
 machine_for version = if version == tall_version then tall_machine first_machine else first_machine
 
--- In every version, events of the ports and the same events without their dead packets are replayed alike, and
--- neither
--- has a fault.
+-- In every version, events of the ports and the same events without their dead packets are replayed alike, and neither
+-- list has a fault.
 abbrev pub SlimReplaysAlike : Type 0
 SlimReplaysAlike = (version : ℕ) (events : List Event) → AreAtPorts events
     → ((replay_of (machine_for version) (slim_events (height_for version) events)).ending ≡ Done)

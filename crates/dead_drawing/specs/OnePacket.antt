@@ -19,18 +19,18 @@ use Rattle.dead_drawing.specs.Calm.{AreCalm}
 use Rattle.dead_drawing.specs.Dead.{is_droppable}
 use Rattle.dead_drawing.specs.Run.{run}
 
--- the words of one whole packet that may be dropped
+-- the words of one whole droppable packet
 pub record IsDroppable (words : List ℕ) : Type 0 where
   pub kind : is_droppable (slice_index words 0) ≡ true
   pub whole : length words ≡ first_len_of (slice_index words 0)
 
--- a box holds another, or there is nothing to hold
+-- a box contains another, or there is nothing to contain
 abbrev pub Holds : Option Box2 → Option Box2 → Type 0
 Holds outer None = Unit {0}
 Holds None (Some inner) = ⊥
 Holds (Some outer) (Some inner) = LiesIn outer inner
 
--- this word completes a fill whose area holds a box
+-- this word completes a fill whose area contains a box
 pub record Covers (s : State) (word : ℕ) (area : Option Box2) : Type 0 where
   pub item : Item
   pub is : new_item s.words word ≡ Some item
@@ -42,7 +42,7 @@ pub record Covers (s : State) (word : ℕ) (area : Option Box2) : Type 0 where
   pub fill : packet_of s.parts.regs.height item ≡ packet.Fill color x y w h
   pub holds : Holds (moved_box x y w h) area
 
--- calm events, and then a word that completes a fill whose area holds a box
+-- events that read no other cells, and then a word that completes a fill whose area contains a box
 pub record IsCovered (s : State) (events : List Event) (area : Option Box2) : Type 0 where
   pub between : List Event
   pub word : ℕ
@@ -50,15 +50,15 @@ pub record IsCovered (s : State) (events : List Event) (area : Option Box2) : Ty
   pub calm : AreCalm s between
   pub covers : Covers (run s between) word area
 
--- The words of a packet are not seen, from a state in which no other packet is unfinished, by the events behind them:
--- it has no area and none are named, or the last of them covers it.
+-- The packet `words`, which starts with nothing pending, is not seen by the events `behind` after it: the last of them
+-- covers its area, or there are none and it draws nothing.
 abbrev pub IsUnseen : State → (words : List ℕ) → (behind : List Event) → Type 0
 IsUnseen s words [] = area_of s.parts.regs (whole_of s.parts.regs.height words) ≡ None
 IsUnseen s words (e ∷ events) =
     IsCovered (run s (map event.Gp0 words)) (e ∷ events) (area_of s.parts.regs (whole_of s.parts.regs.height words))
 
--- Events, the words of a packet, the events up to the fill that covers it, and further events: without the packet all
--- that is seen is the same, from every machine whose video memory has whole rows.
+-- The list is: events `a`, the words of a packet, events `b` up to the fill that covers it, and further events `c`.
+-- Without the packet, it is replayed alike, from every machine whose video memory has whole rows.
 abbrev pub PacketsAreUnseen : Type 0
 PacketsAreUnseen =
     (s : Machine) (a b c : List Event) (words : List ℕ)

@@ -1,10 +1,10 @@
--- Events of the ports on the drawing processor alone: they have no fault, and leave main memory alone.
+-- The effect of events of the ports on the GPU alone. They have no fault and do not change main memory.
 use Rattle.std.specs.Prelude.{ℕ, List, [], ◌∷◌, ◌++◌}
 use Rattle.gpu_capture.specs.declared.event.Event.{Event}
 use Rattle.gpu_capture.specs.declared.event.Event.TheVariants as event
 use Rattle.gpu_core.specs.Machine.{State, after_gp0, after_gp1, after_read, read_word, status_word}
 
--- the state behind an event
+-- the state after an event
 unfoldable pub after : State → Event → State
 after s (event.Gp0 word) = after_gp0 s word
 after s (event.Gp1 word) = after_gp1 s word
@@ -12,13 +12,13 @@ after s event.Read = after_read s
 after s event.Skip = after_read s
 after s other = s
 
--- the word that it shows, if any
+-- the word that an event shows, if any
 unfoldable pub shown_at : State → Event → List ℕ
 shown_at s event.Read = read_word s ∷ []
 shown_at s event.Stat = status_word s ∷ []
 shown_at s other = []
 
--- the state behind events, and the words that they show
+-- the state after events; below, the words that they show
 abbrev pub run : State → List Event → State
 run s [] = s
 run s (e ∷ events) = run (after s e) events

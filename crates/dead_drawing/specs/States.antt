@@ -1,4 +1,4 @@
--- Two states that agree but for some cells, and whose words leave the same.
+-- Two states that agree except in some cells, and have the same words pending.
 use Rattle.std.specs.Prelude.{◌≡◌, ℕ}
 use Rattle.gp0_words.specs.Items.{pending_behind}
 use Rattle.gpu_core.specs.Machine.{Parts, State}
@@ -14,7 +14,7 @@ pub record Alike (among : ℕ → Type 0) (s t : State) : Type 0 where
   pub parts : PartsAlike among s.parts t.parts
   pub rest : pending_behind t.words ≡ pending_behind s.words
 
--- nothing tells them apart
+-- the two states agree in everything that later events depend on
 pub record Same (s t : State) : Type 0 where
   pub parts : t.parts ≡ s.parts
   pub rest : pending_behind t.words ≡ pending_behind s.words

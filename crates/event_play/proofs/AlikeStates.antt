@@ -120,7 +120,7 @@ abbrev machine_with : State → List ℕ → Run → Machine
 machine_with gpu ram running = record { gpu = gpu; ram = ram; running = running }
 
 module _ (a b : State) (same : kept_of a ≡ kept_of b) (ram : List ℕ) (running : Run) where
-  -- nothing but the words of the drawing processor tells them apart
+  -- The two machines differ at most in the words that their GPUs were fed.
   abbrev left : Machine
   left = machine_with a ram running
 
@@ -179,7 +179,7 @@ module _ (a b : State) (same : kept_of a ≡ kept_of b) (ram : List ℕ) (runnin
   work_box_cost-alike work.Skip = take_box_cost-alike a b same
   work_box_cost-alike other = refl
 
--- what two steps answer: alike machines, or the same fault
+-- what two steps return: alike machines, or the same fault
 abbrev AnswerAlike : Result Stepped EventFault → Result Stepped EventFault → Type 0
 AnswerAlike (Ok s) (Ok z) = StepAlike s z
 AnswerAlike (Err f) (Err g) = f ≡ g
@@ -261,7 +261,7 @@ goes-alike t u event same =
     same alike.cost
     alike.box_cost answer
 
--- ---- what is written
+-- ---- output
 
 final-alike : (mode : Mode) (heard : List Reading) (number : ℕ) (a b : State) → kept_of a ≡ kept_of b
     → final_bytes mode heard number a ≡ final_bytes mode heard number b
@@ -378,7 +378,7 @@ raised-alike t u version same = elim (cases_Bool (version == tall_version)) [
   | inr is ↦ rw is same
 ]
 
--- tales that are alike, also with a past
+-- alike replays, also with earlier events
 pub played-alike : (t u : Tale) (c : Captured) → TellAlike t u → PlayAlike (played_from t c) (played_from u c)
 played-alike t u c same =
     replay-alike c.events (raised t c.version) (raised u c.version) c.ending c.rest (raised-alike t u c.version same)

@@ -1,4 +1,4 @@
--- Words that are played at once, an event each.
+-- Words that are played as one block, one event per word.
 use Rattle.std.proofs.Common.{◌≡◌, ◌<◌, ℕ, ◌+◌, ◌^◌, ◌++◌, List, [], ◌∷◌, Ok, option_to_list, map, fold, length}
 use Rattle.std.proofs.Common.{◌≤◌, ◌-◌, take, drop, length-drop, refl, ap, sym, ◌∙◌, append_assoc, append-nil}
 use Rattle.std.proofs.Common.{add-zero, subst, arith}
@@ -20,12 +20,12 @@ use Rattle.event_play.specs.Streams.{Outlets}
 use Rattle.event_play.specs.Told.{told_notes}
 use Rattle.event_play.proofs.Feeds.{told-append}
 
--- ---- the tale behind them
+-- ---- the replay after them
 
 pub after_words-append : (t : Tale) (xs ys : List ℕ) → after_words t (xs ++ ys) ≡ after_words (after_words t xs) ys
 after_words-append t xs ys = fold-append after_word t xs ys
 
--- the first words, and the first of those behind them
+-- the first `at` words, and then `count` of those after them
 pub taken_both : (words : List ℕ) (at count : ℕ) → at ≤ length words
     → take at words ++ take count (take (length words - at) (drop at words)) ≡ take (at + count) words
 taken_both words at count le =
@@ -42,7 +42,7 @@ rest_both words at le =
     take_all (length words - at) (drop at words) (omega (arith, long)) in
     ap (λ xs. take at words ++ xs) all ∙ take-append-drop at words
 
--- the event of a word is played
+-- The event of a word has no fault and leads to the replay with that word.
 pub word_is : (t : Tale) (word : ℕ) → after_event t (Gp0 word) ≡ Ok (after_word t word)
 unfolding event_step event_cost event_box_cost
 word_is t word =
@@ -71,7 +71,7 @@ number_is : (t : Tale) (words : List ℕ) → t.played < 2 ^ 64
 number_is t [] lt = omega (arith, lt)
 number_is t (word ∷ words) lt = let e = number_is (after_word t word) words (omega arith) in omega (arith, e)
 
--- numbers that are cut off alike number alike
+-- Numbers that are equal up to the limit of 2^64 - 1 give the same notes.
 pub same_numbers : (s : State) (a b : ℕ) (words : List ℕ) → capped a ≡ capped b → feed_notes s a words
     ≡ feed_notes s b words
 same_numbers s a b [] e = refl
@@ -91,7 +91,7 @@ notes_are t (word ∷ words) =
     ∙ ap (λ notes. t.notes ++ (note ++ notes))
     (same_numbers (after_gp0 t.state.gpu word) (n + 1) (t.played + 1 + 1) words (omega arith))
 
--- each tap is told all notes, or all taps each note
+-- The taps record the same if each tap receives all notes, or each note goes to all taps.
 told_each : (notes : List Note) (readings : List Reading) → map (after_notes notes) readings ≡ told_notes notes readings
 told_each notes [] = none notes
   where
@@ -129,14 +129,14 @@ words_told t first before now was gpu played words lt told takes =
       cost = let e = cost_is t words in let a = told.cost in let b = did.cost in omega (arith, e, a, b);
     }
 
--- words behind the first ones were told too
+-- The words after the first ones were played too.
 pub told_on : (t : Tale) (first now : Outlets) (gpu : Kept) (played : ℕ) (xs ys all : List ℕ) → xs ++ ys ≡ all
     → IsTold (after_words (after_words t xs) ys) first now gpu played → IsTold (after_words t all) first now gpu played
 told_on t first now gpu played xs ys all both told =
     let P : Tale → Type 0 = λ tale. IsTold tale first now gpu played in
     subst P (sym (after_words-append t xs ys) ∙ ap (after_words t) both) told
 
--- so were the first of those behind the first ones
+-- the same for the first of the words after the first ones
 pub told_first : (t : Tale) (first now : Outlets) (gpu : Kept) (words : List ℕ) (at count number counted : ℕ)
     → at ≤ length words → counted ≡ number
     → IsTold (after_words (after_words t (take at words)) (take count (take (length words - at) (drop at words)))) first

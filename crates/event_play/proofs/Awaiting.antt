@@ -1,4 +1,4 @@
--- How far playing a capture has come.
+-- The state of playing a capture.
 use Rattle.std.proofs.Common.{◌≡◌, ◌≤◌, inl, inr, ℕ, suc, ◌+◌, ◌++◌, List, [], ◌∷◌, Option, Result, Ok, Err, OnOk, IfOk}
 use Rattle.std.proofs.Common.{IfErr, Bool, cond, nat_lt, replicate, refl, ap, sym, subst, ◌∙◌, append_assoc, append-nil}
 use Rattle.std.proofs.Common.{◌<◌, ◌⊎◌, length, length-append, arith}
@@ -35,8 +35,9 @@ use Rattle.event_play.proofs.Following.{ReadsAll, ReadsTo, read_first, read_on, 
 use Rattle.event_play.proofs.Firsts.{IsFirst, raised_first, from_first}
 use Rattle.event_play.proofs.Lacking.{WasDue, due_more}
 
--- The first bytes of the source were taken, and exactly what is due so far was put and told. All was written where the
--- first of these bytes were taken. What the bytes say of this tale is left open here.
+-- The first bytes of the source were read. The output so far was written or buffered, and the notes sent. `flushed`:
+-- the bytes read at the last flush; `behind`: the bytes after them. What the bytes say of the replay is the argument
+-- `Says`.
 pub record Reaches (mode : Mode) (script : List ℕ → Script) (before now : Streams) (gathered : List Piece)
     (rig : RigState) (Says : Tale → (taken behind : List ℕ) → List Event → Type 0) : Type 0 where
   pub taken : List ℕ
@@ -54,11 +55,11 @@ pub record Reaches (mode : Mode) (script : List ℕ → Script) (before now : St
   pub heard : now.heard ≡ told_notes tale.notes before.heard
   pub cost : now.steps ≤ before.steps + tale_cost mode tale
 
--- whatever follows, playing goes on from the tale at the reader's place
+-- Whatever bytes follow, playing continues from the replay at the reader's offset.
 abbrev pub PlaysOn : (List ℕ → Script) → Progress → Tale → List ℕ → Type 0
 PlaysOn script p t taken = (rest : List ℕ) → plays script (taken ++ rest) ≡ replayed t (capture_from p rest)
 
--- these bytes were taken between this place of the reader and where it stands
+-- `behind`: the bytes read from the offset `since` to the reader's offset
 pub record LiesBehind (since : ℕ) (p : Progress) (behind : List ℕ) : Type 0 where
   pub at : Progress
   pub known : 1 ≤ at.version
@@ -66,11 +67,11 @@ pub record LiesBehind (since : ℕ) (p : Progress) (behind : List ℕ) : Type 0 
   pub events : List Event
   pub says : (rest : List ℕ) → capture_from at (behind ++ rest) ≡ then_events events (capture_from p rest)
 
--- few of them, where lines are gathered
+-- at most 4,112 of them, if the mode buffers lines
 abbrev pub AreFew : Mode → List ℕ → Type 0
 AreFew mode behind = IsGathered mode → length behind ≤ most_behind
 
--- and these events were read and played
+-- These events were read and played, and playing continues after them.
 pub record GoesOn (mode : Mode) (script : List ℕ → Script) (since : ℕ) (p : Progress) (t : Tale)
     (taken behind : List ℕ) (events : List Event) : Type 0 where
   pub plays_on : PlaysOn script p t taken
@@ -78,11 +79,11 @@ pub record GoesOn (mode : Mode) (script : List ℕ → Script) (since : ℕ) (p 
   pub lies : LiesBehind since p behind
   pub few : AreFew mode behind
 
--- a replay that stays at a tale
+-- a replay that stops after `t`
 abbrev pub stopped : Tale → Stop → List ℕ → Played
 stopped t stop rest = record { tale = t; ending = ending_of (next_number t.played) stop; rest = rest }
 
--- what the bytes say where the reader has answered an event that is not played yet, or a stop
+-- what the bytes say after the reader has returned an event, not played yet, or a stop
 abbrev pub SaysNext : (List ℕ → Script) → Progress → Option (List ℕ) → Result Event Stop → Tale → List ℕ → Type 0
 SaysNext script p left (Ok event) t taken = (rest : List ℕ)
     → plays script (taken ++ rest) ≡ replayed t (then_events (event ∷ []) (capture_from p rest))
@@ -91,8 +92,8 @@ SaysNext script p left (Err (Truncated byte)) t taken =
     (plays script taken ≡ stopped t (Truncated byte) []) × IsAtEnd left
 SaysNext script p left (Err stop) t taken = (rest : List ℕ) → plays script (taken ++ rest) ≡ stopped t stop rest
 
--- An event that is not played yet was read behind these events. Where the reader stopped, the bytes taken say them, if
--- there are any.
+-- An event that is not played yet was read after these events. If the reader stopped, the bytes read say these events,
+-- unless there are none.
 abbrev pub ReadsNext : (List ℕ → Script) → Progress → Result Event Stop → Tale → List ℕ → List Event → Type 0
 ReadsNext script p (Ok event) t taken events = ReadsTo script p t taken events (event ∷ [])
 ReadsNext script p (Err stop) t taken events = (events ≡ []) ⊎ ReadsAll script t taken events
@@ -114,20 +115,20 @@ abbrev pub Awaits : Mode → (List ℕ → Script) → (before now : Streams) �
 Awaits mode script before now gathered since rig p next =
     Reaches mode script before now gathered rig (Answers mode script since p now.left next)
 
--- a bound on the events that are still to be played
+-- a bound of the number of events still to be played
 abbrev pub events_left : Progress → Result Event Stop → ℕ
 events_left p (Ok event) = suc (work_left p)
 events_left p (Err stop) = 0
 
--- ---- the beginning
+-- ---- the start
 
--- none of the bytes up to the first answer is one too many
+-- None of the bytes up to the reader's first result is unnecessary.
 first_needed : (first : Tale) (start : Progress) (taken : List ℕ) → AreNeeded start taken
     → AreAllNeeded (played_behind first start) taken
 first_needed first start taken needed part more splits some =
     let short = needed part more splits some in rw (ap (played_from first) short.is) tt
 
--- what is said by the first answer of a reader, in a capture of this version
+-- what the bytes of the first event say, in a capture of this version
 says_first : (first : Tale) (start new : Progress) (event : Event) (taken : List ℕ) → 1 ≤ new.version
     → ((rest : List ℕ) → capture_from start (taken ++ rest) ≡ then_events (event ∷ []) (capture_from new rest))
     → (rest : List ℕ) → played_behind first start (taken ++ rest) ≡ replayed (raised first new.version)
@@ -161,7 +162,7 @@ module _ (mode : Mode) (s : Machine) (played : ℕ) (left left_now held : Option
     none : IsFirst profiled
     none = raised_first begun new.version (from_first s played)
 
-    -- nothing was written, told or spent yet
+    -- nothing was written, noted or spent yet
     reached : (next : Result Event Stop) (taken : List ℕ) → left ≡ prepended taken left_now → AreNeeded start taken
         → SaysNext (script_behind begun start) new left_now next profiled taken
         → ReadsNext (script_behind begun start) new next profiled taken [] → LiesNext since new next []
@@ -219,16 +220,16 @@ module _ (mode : Mode) (s : Machine) (played : ℕ) (left left_now held : Option
         reached (Err stop) stops.taken stops.bytes stops.needed
         (stops_first begun start new stop stops.taken left_now stops.says) (inl refl) tt
 
--- a new reader stands before a whole capture
+-- A new reader has a whole capture to read.
 pub behind_start : (t : Tale) (p : Progress) → IsStart p → script_behind t p ≡ script_of t
 behind_start t p start =
     let by : Bool → List ℕ → Script = λ is bytes. script_from t
     (cond is (then_events (replicate p.left p.repeated) (records p.version p.due p.place bytes)) (capture bytes)) in
     ap by (ap (nat_lt 0) start.version)
 
--- ---- the next answer
+-- ---- what the reader returns next
 
--- the bytes so far, and those of one step more
+-- None of the bytes so far and of those of one more step is unnecessary.
 all_needed : (script : List ℕ → Script) (t : Tale) (old : Progress) (xs ys : List ℕ) → PlaysOn script old t xs
     → AreAllNeeded (plays script) xs → AreNeeded old ys → AreAllNeeded (plays script) (xs ++ ys)
 all_needed script t old xs ys goes was next part more is some =
@@ -241,7 +242,7 @@ all_needed script t old xs ys goes was next part more is some =
       | inr inside ↦ was part inside.0 inside.1 inside.2
     ]
 
--- what is said of the bytes so far and of those of one step more
+-- what the bytes so far and those of one more step say
 pub goes_past : (script : List ℕ → Script) (t : Tale) (old : Progress) (xs ys rest : List ℕ) (c : Captured)
     → PlaysOn script old t xs
     → capture_from old (ys ++ rest) ≡ c → plays script ((xs ++ ys) ++ rest) ≡ replayed t c
@@ -353,7 +354,7 @@ module _ (mode : Mode) (script : List ℕ → Script) (before now : Streams) (ga
 
 -- ---- a pause
 
--- it goes on where all was written, or where few bytes were taken since
+-- before the next read: the reader is less than 4,096 bytes after the last flush
 pub record Paused (mode : Mode) (script : List ℕ → Script) (before now : Streams) (gathered : List Piece) (since : ℕ)
     (rig : RigState) (p : Progress) : Type 0 where
   pub reached : Reaches mode script before now gathered rig (GoesOn mode script since p)
@@ -400,7 +401,7 @@ pauses_on mode script before now gathered new since at rig p held was started (i
       near = omega (arith, e);
     }
 
--- what is awaited, by what the reader has answered
+-- the same for an equal result of the reader
 pub awaits_is : (mode : Mode) (script : List ℕ → Script) (before now : Streams) (gathered : List Piece) (since : ℕ)
     (rig : RigState) (p : Progress) (next other : Result Event Stop)
     → next ≡ other → Awaits mode script before now gathered since rig p next

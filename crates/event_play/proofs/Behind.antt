@@ -1,4 +1,4 @@
--- How many bytes are taken behind the place where all was last written.
+-- How many bytes are read after the last flush.
 use Rattle.std.proofs.Common.{◌≡◌, ◌≤◌, ◌<◌, ◌⊎◌, ◌+◌, ◌++◌, ℕ, List, [], length, min, inl, inr, ap, arith}
 use Rattle.std.proofs.Common.{length-append}
 use Rattle.gpu_capture.specs.Capture.{capture, limit, then_events}
@@ -8,11 +8,11 @@ use Rattle.gpu_capture.specs.declared.progress.Progress.{Progress}
 use Rattle.gpu_capture.proofs.Taken.{few_at_first, few_at_once, taken_count}
 use Rattle.event_play.specs.Pausing.{most_behind}
 
--- a reader is at its start, or behind the head
+-- a reader at its start, or after the file header
 abbrev pub IsReading : Progress → List ℕ → List Event → Type 0
 IsReading p taken events = (IsStart p × (taken ≡ []) × (events ≡ [])) ⊎ (1 ≤ p.version)
 
--- few bytes more were taken, wherever the reader stood near the place where all was last written
+-- If a reader is less than 4,096 bytes after the last flush, it is at most 4,112 bytes after it one step later.
 pub few_behind : (p : Progress) (events : List Event) (taken more flushed : List ℕ) (since : ℕ)
     → IsReading p taken events
     → ((rest : List ℕ) → capture (taken ++ rest) ≡ then_events events (capture_from p rest))

@@ -1,4 +1,4 @@
--- The two counts of store steps beside each other.
+-- The two bounds of store steps compared.
 use Rattle.std.proofs.Common.{◌≤◌, ℕ, zero, suc, ◌+◌, List, [], ◌∷◌, Result, Ok, Err, arith}
 use Rattle.gpu_capture.specs.declared.event.Event.{Event}
 use Rattle.gpu_core.specs.Machine.{State, after_gp0}
@@ -61,7 +61,7 @@ costs_small t (event ∷ events) stop rest before =
     (λ next. costs_small next events stop rest)
     (λ fault so_far. so_far) before
 
--- what is played costs no more than it does by the boxes
+-- What is played costs at most its box cost.
 abbrev pub AreSmall : (List ℕ → Played) → Type 0
 AreSmall by_bytes = (bytes : List ℕ) → (by_bytes bytes).tale.cost ≤ (by_bytes bytes).tale.box_cost
 
@@ -72,7 +72,7 @@ from_small s played p bytes =
     let none = raised_first (from_state s played) c.version (from_first s played) in
     costs_small first c.events c.ending c.rest (omega (arith, none.cost, none.box_cost))
 
--- what playing spends, by the boxes
+-- the store steps of playing and of its output, by the boxes
 pub within_boxes : (mode : Mode) (by_bytes : List ℕ → Played) (bytes : List ℕ) (before now : ℕ) → AreSmall by_bytes
     → now ≤ before + out_cost mode (by_bytes bytes) → now ≤ before + out_box_cost mode (by_bytes bytes)
 within_boxes mode by_bytes bytes before now small within = let less = small bytes in omega (arith, within, less)

@@ -1,4 +1,4 @@
--- Works that are the steps of events.
+-- Operations that are the steps of events.
 use Rattle.std.proofs.Common.{◌≡◌, ◌≤◌, ℕ, ◌+◌, List, [], Option, Ok, Err, refl, ap, sym, subst, ◌∙◌, arith}
 use Rattle.gpu_capture.specs.declared.event.Event.{Event}
 use Rattle.gpu_core.specs.Kept.{kept_of}
@@ -20,7 +20,7 @@ use Rattle.event_play.specs.declared.work.Work.{Work}
 use Rattle.event_play.specs.declared.work.Work.TheVariants as work
 use Rattle.event_play.specs.Setting.{setting}
 
--- all but the drawing processor's state is the rig's
+-- A machine that agrees with a rig is the rig's machine with its own GPU state.
 pub stands_is : (rig : RigState) (s : Machine) → Stands rig s → machine_of rig s.gpu ≡ s
 stands_is rig s stands =
     let with_ram : List ℕ → Machine = λ ram. record { gpu = s.gpu; ram = ram; running = rig.running } in
@@ -32,7 +32,7 @@ pub step_fault : (rig : RigState) (s : Machine) (number : ℕ) (event : Event) (
 unfolding event_step
 step_fault rig s number event fault stands asked = rw (stands.ram, stands.running, ← asked) refl
 
--- a work has the notes of the words that it feeds
+-- An operation has the notes of the words that it feeds.
 notes_are : (s : Machine) (number : ℕ) (asked : Work)
     → (done s number asked).notes ≡ fed_notes s.gpu number (asked_words s.ram (Ok asked))
 notes_are s number work.Nothing = refl
@@ -46,7 +46,7 @@ notes_are s number work.Stat = refl
 notes_are s number (work.Clear madr n) = refl
 notes_are s number (work.Begin next) = refl
 
--- what was done for an event by so many steps, and by the others what was put of its words
+-- An event was played with `at` store steps; the other steps are those of the lines of its words.
 pub record HasDone (mode : Mode) (s : Machine) (number : ℕ) (event : Event) (shown : Option ℕ) (before now : Outlets)
     (rig : RigState) : Type 0 where
   pub at : ℕ
@@ -54,7 +54,7 @@ pub record HasDone (mode : Mode) (s : Machine) (number : ℕ) (event : Event) (s
   pub asked_notes : step.notes ≡ fed_notes s.gpu number (event_words s event)
   pub spent : now.steps ≤ at + lines_cost mode [] (event_strokes s number event)
 
--- where nothing is written, all steps are those of the event
+-- In a mode without lines, all store steps are those of the event.
 pub only_stepped : (s : Machine) (number : ℕ) (event : Event) (shown : Option ℕ) (before now : Outlets)
     (rig : RigState)
     → HasDone Vram s number event shown before now rig

@@ -1,4 +1,4 @@
--- Words that are fed, part by part.
+-- Words that are fed in parts.
 use Rattle.std.proofs.Common.{◌≡◌, ◌≤◌, ◌⊎◌, inl, inr, ℕ, ◌+◌, ◌++◌, List, [], ◌∷◌, Option, None, Some, Ok, Err}
 use Rattle.std.proofs.Common.{option_to_list}
 use Rattle.std.proofs.Common.{flat_map, refl, ap, sym, subst, ◌∙◌, append_assoc, append-nil, arith}
@@ -88,7 +88,7 @@ told_one : (note : Option Note) (readings : List Reading)
 told_one None readings = refl
 told_one (Some note) readings = refl
 
--- a word was fed, and the line of its note put or not
+-- a word was fed, and the line of its note was added or could not be written
 module _ (mode : Mode) (s : State) (number word : ℕ) (note : Option Note) (before now : Outlets) (gpu : Kept)
     (stands : kept_of (after_gp0 s word) ≡ gpu) (noted : gp0_note s number word ≡ note)
     (told : now.heard ≡ told_option note before.heard) (cost : now.steps ≤ before.steps + gp0_cost s word) where
@@ -133,7 +133,7 @@ while_quiet Report notes strokes not = refl
 while_quiet (Frames at) notes strokes not = refl
 while_quiet (Sums at) notes strokes not = refl
 
--- a word was fed for which no line is due
+-- a word was fed that has no line
 pub quiet_feeds : (mode : Mode) (number word : ℕ) (note : Option Note) (before now : Outlets) (was gpu : Kept)
     → (IsGathered mode → ⊥)
     → now.held ≡ before.held → now.faults ≡ before.faults → now.gathered ≡ before.gathered
@@ -154,7 +154,7 @@ quiet_feeds mode number word note before now was gpu not held faults gathered st
   faults = omega (arith, faults);
 }
 
--- the line of what it changes of a cell
+-- the line of the word's change of a cell
 pub watched_lines : (cell : Cell) (s : State) (number word : ℕ) (item : Option Note) (was gpu : Kept) (old new : ℕ)
     → kept_of s ≡ was → kept_of (after_gp0 s word) ≡ gpu → gp0_note s number word ≡ item
     → old ≡ seen_cell cell was.parts.m → new ≡ seen_cell cell gpu.parts.m
@@ -165,7 +165,7 @@ watched_lines cell s number word item was gpu old new is stands noted saw sees =
     ≡ new = ap (λ (k : Kept). seen_cell cell k.parts.m) stands ∙ sym sees in
     sym (append-nil _ ∙ rw (noted, first, last) refl)
 
--- the same where a cell is looked at, and the line of its change was put or not
+-- the same if a cell is watched, and the line of its change was added or could not be written
 module _ (cell : Cell) (s : State) (number word : ℕ) (note : Option Note) (gpu : Kept)
     (before now : Outlets) (stands : kept_of (after_gp0 s word) ≡ gpu)
     (noted : gp0_note s number word ≡ note)
@@ -191,7 +191,7 @@ module _ (cell : Cell) (s : State) (number word : ℕ) (note : Option Note) (gpu
     cost = omega (arith, cost);
   }
 
--- ---- part by part
+-- ---- in parts
 
 module _ (mode : Mode) (s : State) (number : ℕ) (xs ys : List ℕ) (before mid now : Outlets) (was gpu : Kept)
     (first : Feeds (in_event number mode) s xs before (drawing mid was)) where
@@ -224,7 +224,7 @@ module _ (mode : Mode) (s : State) (number : ℕ) (xs ys : List ℕ) (before mid
             omega (arith, e, first.cost, next.cost);
       }
 
--- words behind those that were fed change nothing of a stop
+-- If a line could not be written, the words after it do not matter.
 pub stops_early : (mode : Mode) (s : State) (number : ℕ) (words xs ys : List ℕ) (before now : Outlets) (gpu : Kept)
     → words ≡ xs ++ ys
     → StopsFeeding (in_event number mode) s xs before (drawing now gpu)
@@ -247,9 +247,9 @@ feeds_same mode s number words xs before now gpu are feeds =
     let P : List ℕ → Type 0 = λ words. Feeds (in_event number mode) s words before (drawing now gpu) in
     subst P (sym are) feeds
 
--- ---- calls that feed words, for every state for which the drawing processor stands
+-- ---- calls that feed words, for every GPU state with the essential state before them
 
--- these words were fed since the drawing processor kept this, and their lines put
+-- these words were fed since the essential state `was` of the GPU, and their lines added
 pub record AreFed (mode : Mode) (number : ℕ) (words : List ℕ) (before now : Outlets) (was gpu : Kept) : Type 0 where
   pub feeds : (s : State) → kept_of s ≡ was → Feeds (in_event number mode) s words before (drawing now gpu)
   pub put : (s : State) → kept_of s ≡ was → HasPut (piece number (fed_lines mode s number words))
@@ -309,7 +309,7 @@ module _ {Value : Type 0} (mode : Mode) (number : ℕ) (xs ys : List ℕ) (befor
     faults = let a = first.faults in let b = next.faults in omega (arith, a, b);
   }
 
-  -- of more of them a line could not be put
+  -- a line of the further words could not be written
   pub words_stop : {Other : Type 0} (words zs : List ℕ) (e : ℕ) → words ≡ (xs ++ ys) ++ zs
       → FeedsWords {Value = Value} (in_event number mode) ys (drawing mid at) (drawing now gpu) (Err e)
       → FeedsWords {Value = Other} (in_event number mode) words (drawing before was) (drawing now gpu) (Err e)

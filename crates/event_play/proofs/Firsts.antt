@@ -1,10 +1,10 @@
--- The tale from which a capture is played.
+-- The replay from which a capture is played.
 use Rattle.std.proofs.Common.{◌≡◌, ◌==◌, ℕ, [], refl, inl, inr}
 use Rattle.std.proofs.lemmas.Bool.{cases_Bool}
 use Rattle.event_play.specs.Replay.{Tale, from_state, raised, tall_version}
 use Rattle.event_play.specs.Step.{Machine}
 
--- nothing was played, shown or told yet
+-- nothing was shown, noted, changed or spent yet
 pub record IsFirst (t : Tale) : Type 0 where
   pub shown : t.shown ≡ []
   pub frames : t.frames ≡ []

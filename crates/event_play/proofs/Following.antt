@@ -1,4 +1,4 @@
--- What the bytes taken say in events, that none of them is one too many, and the tale to which the events lead.
+-- What the bytes read say in events, that none of them is unnecessary, and the replay to which the events lead.
 use Rattle.std.proofs.Common.{◌≡◌, ◌<◌, inl, inr, ◌++◌, ℕ, zero, suc, List, [], ◌∷◌, Option, Ok, refl, ap, sym}
 use Rattle.std.proofs.Common.{◌∙◌, append_assoc, append-nil, add-zero, take, length, subst, arith}
 use Rattle.gpu_capture.specs.Capture.{Captured, ended, then_events}
@@ -15,12 +15,12 @@ use Rattle.event_play.specs.Replay.{Tale, Script, after_event, go_on, part_fed, 
 use Rattle.event_play.specs.Step.{event_words}
 use Rattle.event_play.specs.declared.ending.Ending.TheVariants.{Faulted}
 
--- ---- tales
+-- ---- replays
 
 pub follows_none : (first : Tale) → Follows first [] first
 follows_none first = record { replays = λ more stop rest. refl }
 
--- one event more
+-- one more event
 pub follows_on : (first t next : Tale) (events : List Event) (event : Event) → Follows first events t
     → after_event t event ≡ Ok next → Follows first (events ++ event ∷ []) next
 follows_on first t next events event was is = record {
@@ -31,7 +31,7 @@ follows_on first t next events event was is = record {
       (λ fault. record { tale = t; ending = Faulted (next_number t.played) fault; rest = rest })) is;
 }
 
--- more events, that lead on from the tale
+-- more events, which continue from the replay
 pub follows_all : (first t next : Tale) (events others : List Event) → Follows first events t
     → Follows t others next → Follows first (events ++ others) next
 follows_all first t next events others was behind = record {
@@ -40,16 +40,16 @@ follows_all first t next events others was behind = record {
       ∙ was.replays (others ++ more) stop rest ∙ behind.replays more stop rest;
 }
 
--- ---- the bytes taken
+-- ---- the bytes read
 
 abbrev cut_at : ℕ → ℕ → List Event → Captured
 cut_at version byte events = record { version = version; events = events; ending = Truncated byte; rest = [] }
 
--- a proper part of these bytes says fewer than these events, whether or not it reaches into the bytes of the last ones
+-- The bytes `part` are cut short before the last of these events.
 abbrev pub IsShortOf : (List ℕ → Captured) → List Event → List ℕ → Type 0
 IsShortOf read events part = (event : Event) × (missing : List Event) × IsCutShort read events part (event ∷ missing)
 
--- it is short of more events too
+-- They are also cut short before the last of more events.
 short_on : (read : List ℕ → Captured) (events others : List Event) (part : List ℕ) → IsShortOf read events part
     → IsShortOf read (events ++ others) part
 short_on read events others part short = (
@@ -65,13 +65,13 @@ short_on read events others part short = (
   },
 )
 
--- none of the bytes is one too many for them either
+-- Nor is any of the bytes unnecessary for more events.
 pub needed_on : (read : List ℕ → Captured) (events others : List Event) (taken : List ℕ) → AreNeeded read events taken
     → AreNeeded read (events ++ others) taken
 needed_on read events others taken needed part more is some =
     short_on read events others part (needed part more is some)
 
--- behind these events it says the first words of others, and no more
+-- After these events, the bytes say the first words of others, and no more.
 word_short : (read : List ℕ → Captured) (events : List Event) (words part : List ℕ) (count version byte : ℕ)
     → count < length words
     → read part ≡ then_events events (then_events (word_events (take count words)) (ended version (Truncated byte) []))
@@ -95,8 +95,8 @@ word_short read events (word ∷ words) part (suc count) version byte fewer is =
     subst (λ (all : List Event). IsShortOf read all part)
     (append_assoc events (Gp0 word ∷ []) (word_events words)) later
 
--- The bytes taken say these events, and then what the format says of the rest from the reader's place on; none of them
--- is one too many for the last one. The first of the events lead to the tale.
+-- The bytes read say these events, and then what the format says from the reader's offset on. None of them is
+-- unnecessary for the last event. The events `events` lead to the replay; those of `behind` were read and not played.
 pub record ReadsTo (script : List ℕ → Script) (p : Progress) (t : Tale) (taken : List ℕ) (events behind : List Event)
     : Type 0 where
   pub first : Tale
@@ -119,7 +119,7 @@ read_to script p t taken events event read = record {
   follows = read.follows;
 }
 
--- The bytes taken say these events first, and these lead to the tale.
+-- The bytes read say these events first, and these lead to the replay.
 pub record ReadsAll (script : List ℕ → Script) (t : Tale) (taken : List ℕ) (events : List Event) : Type 0 where
   pub first : Tale
   pub version : ℕ
@@ -141,7 +141,7 @@ reads_all script p t taken events read = record {
   follows = read.follows;
 }
 
--- also where more bytes were taken
+-- the same after more bytes are read
 pub reads_further : (script : List ℕ → Script) (t : Tale) (taken further : List ℕ) (events : List Event)
     → ReadsAll script t taken events → ReadsAll script t (taken ++ further) events
 reads_further script t taken further events all = record {
@@ -154,7 +154,7 @@ reads_further script t taken further events all = record {
   follows = all.follows;
 }
 
--- ---- the last tale
+-- ---- the last replay
 
 -- all events were played
 pub leads_all : (first t : Tale) (events : List Event) → Follows first events t → LeadsTo first events t
@@ -167,7 +167,7 @@ leads_all first t events follows = record {
   up_to = refl;
 }
 
--- of the last one the first words were fed
+-- of the last event, the first words were fed
 pub leads_part : (first t : Tale) (events : List Event) (event : Event) (words more : List ℕ)
     → Follows first events t → event_words t.state event ≡ words ++ more
     → LeadsTo first (events ++ event ∷ []) (part_fed t words)
@@ -180,7 +180,7 @@ leads_part first t events event words more follows are = record {
   up_to = (words, more, are, refl);
 }
 
--- none of them was
+-- of the last event, no word was fed
 pub leads_before : (first t : Tale) (events : List Event) (event : Event) → Follows first events t
     → LeadsTo first (events ++ event ∷ []) t
 leads_before first t events event follows = record {
@@ -197,7 +197,7 @@ leads_before first t events event follows = record {
   );
 }
 
--- it was played
+-- the event was played
 pub read_played : (script : List ℕ → Script) (p : Progress) (t next : Tale) (taken : List ℕ) (events : List Event)
     (event : Event) → ReadsTo script p t taken events (event ∷ []) → after_event t event ≡ Ok next
     → ReadsTo script p next taken (events ++ event ∷ []) []
@@ -224,7 +224,7 @@ module _ (script : List ℕ → Script) (old new : Progress) (t : Tale) (xs ys :
   says_so_far rest = read.says rest
       ∙ ap (λ (all : List Event). then_events all (capture_from old rest)) (append-nil events)
 
-  -- a proper part of all bytes reaches into the later ones, or not
+  -- a proper prefix of all bytes, which ends before the later ones or among them
   both_needed : ((part more : List ℕ) → ys ≡ part ++ more → (more ≡ [] → ⊥)
       → (whole : List ℕ) → reads script whole ≡ then_events events (capture_from old part)
       → IsShortOf (reads script) (events ++ others) whole)
@@ -249,7 +249,7 @@ module _ (script : List ℕ → Script) (old new : Progress) (t : Tale) (xs ys :
   begins_both : (rest : List ℕ) → (script ((xs ++ ys) ++ rest)).first ≡ read.first
   begins_both rest = ap (λ bytes. (script bytes).first) (append_assoc xs ys rest) ∙ read.begins (ys ++ rest)
 
--- one event more was read
+-- one more event was read
 pub read_on : (script : List ℕ → Script) (old new : Progress) (t : Tale) (xs ys : List ℕ) (events : List Event)
     (event : Event)
     → ReadsTo script old t xs events [] → ReaderNeeds old ys
@@ -277,7 +277,7 @@ read_on script old new t xs ys events event read needed says = record {
   follows = read.follows;
 }
 
--- words were read and played, an event each
+-- words were read and played, one event per word
 pub read_words : (script : List ℕ → Script) (old new : Progress) (before now : Option (List ℕ)) (t next : Tale)
     (xs words : List ℕ) (events : List Event)
     → ReadsTo script old t xs events [] → (takes : TakesWords (standing old before) (standing new now) words)
@@ -301,7 +301,7 @@ read_words script old new before now t next xs words events read takes behind =
       follows = follows_all read.first t next events others read.follows behind;
     }
 
--- the first answer of a reader
+-- the first event that a reader returns
 pub read_first : (script : List ℕ → Script) (start new : Progress) (first : Tale) (taken : List ℕ) (event : Event)
     (version : ℕ)
     → ((bytes : List ℕ) → reads script bytes ≡ capture_from start bytes)

@@ -1,4 +1,4 @@
--- What has been written, told and spent only grows.
+-- What was written, noted and spent only grows.
 use Rattle.std.proofs.Common.{◌≡◌, ◌≤◌, ℕ, ◌+◌, ◌++◌, List, [], ◌∷◌, Option, Result, Ok, Err, option_to_list, refl, ap}
 use Rattle.std.proofs.Common.{◌∙◌, append_assoc, arith}
 use Rattle.std.proofs.lemmas.Grind.{flat_map-append}
@@ -85,7 +85,7 @@ lines_cost-append Vram frames behind strokes later = refl
 lines_cost-append Shot frames behind strokes later = refl
 lines_cost-append Report frames behind strokes later = refl
 
--- ---- the tale with one event more
+-- ---- the replay with one more event
 
 abbrev pub tale_on : Tale → Event → Machine → Option ℕ → List Note → Tale
 tale_on t event machine shown notes = record {
@@ -106,7 +106,7 @@ after-event t event machine shown notes is = rw is refl
 
 -- ---- along a replay
 
--- what goes from each tale to the next one, and stays at a fault, holds of the whole replay
+-- If P holds at a fault, and holds for a replay whenever it holds for the next one, it holds for the whole replay.
 pub along : (P : Tale → Played → Type 0) (t : Tale) (event : Event) (step : Result Stepped EventFault)
     (on : Tale → Played) (faulted : EventFault → Played)
     → ((stepped : Stepped) → P (tale_on t event stepped.machine stepped.shown stepped.notes)
@@ -118,11 +118,11 @@ along P t event (Ok stepped) on faulted back at_next at_fault =
     back stepped (at_next (tale_on t event stepped.machine stepped.shown stepped.notes))
 along P t event (Err fault) on faulted back at_next at_fault = at_fault fault
 
--- what later events add to what is written
+-- what later events add to the output
 abbrev Adds : Mode → List Reading → Tale → Played → Type 0
 Adds mode heard t r = (more : List ℕ) × (out_bytes mode heard r ≡ lines_of mode t ++ more)
 
--- what was due so far begins all that is written
+-- The output so far is a prefix of the whole output.
 pub out_grows : (mode : Mode) (heard : List Reading) (t : Tale) (events : List Event) (stop : Stop) (rest : List ℕ)
     → Adds mode heard t (played_events t events stop rest)
 out_grows mode heard t [] stop rest = (finals mode heard (played_events t [] stop rest), refl)
@@ -146,7 +146,7 @@ out_grows mode heard t (event ∷ events) stop rest =
       refl,
     ))
 
--- steps aren't given back
+-- Store steps never decrease.
 pub cost_grows : (mode : Mode) (t : Tale) (events : List Event) (stop : Stop) (rest : List ℕ)
     → tale_cost mode t ≤ tale_cost mode (played_events t events stop rest).tale
 cost_grows mode t [] stop rest = omega arith

@@ -1,4 +1,4 @@
--- Words of GP0 that are played at once, an event each.
+-- Words of GP0 that are played as one block, one event per word.
 use Rattle.std.proofs.Common.{◌≡◌, ◌≤◌, ◌<◌, inl, inr, ℕ, ◌+◌, ◌++◌, List, [], ◌∷◌, Option, Result, Ok, Err, OnOk}
 use Rattle.std.proofs.Common.{refl, ap, sym, ◌∙◌, append_assoc, append-nil, take, arith}
 use Rattle.dev_io.proofs.Parts.{taken_on}
@@ -35,9 +35,9 @@ use Rattle.event_play.proofs.Lacking.{WasDue, due_more, due_on}
 use Rattle.event_play.proofs.Listed.{words_gathered}
 use Rattle.event_play.proofs.Reaching.{goes_on}
 
--- ---- tales
+-- ---- replays
 
--- a replay of words goes on from the tale behind them
+-- A replay of words continues from the replay after them.
 pub words_are : (t : Tale) (words : List ℕ) (c : Captured)
     → replayed t (then_events (word_events words) c) ≡ replayed (after_words t words) c
 words_are t [] c = refl
@@ -45,7 +45,7 @@ words_are t (word ∷ words) c =
     goes_on t (after_word t word) (Gp0 word) (then_events (word_events words) c) (word_is t word)
     ∙ words_are (after_word t word) words c
 
--- their events lead to that tale
+-- Their events lead to that replay.
 words_follow : (t : Tale) (words : List ℕ) → Follows t (word_events words) (after_words t words)
 words_follow t [] = record { replays = λ more stop rest. refl }
 words_follow t (word ∷ words) =
@@ -76,9 +76,9 @@ all_needed script t old new before now xs words goes was takes part more is some
       | inr inside ↦ was part inside.0 inside.1 inside.2
     ]
 
--- ---- what is due for them
+-- ---- their lines
 
--- in most modes no line is
+-- The words have no lines: the mode does not buffer any, or there are no words.
 abbrev AreQuiet : Mode → List ℕ → Type 0
 AreQuiet Listing words = words ≡ []
 AreQuiet (Pixel cell) words = words ≡ []
@@ -116,7 +116,7 @@ same_running : (t : Tale) (words : List ℕ) → (after_words t words).state.run
 same_running t [] = refl
 same_running t (word ∷ words) = same_running (after_word t word) words
 
--- what may be gathered, may be with them
+-- A mode that may have a buffer may have these pieces in it too.
 free_on : (mode : Mode) (gathered : List Piece) (notes : List Note) → MayGather mode gathered
     → MayGather mode (gathered ++ pieces_for mode notes)
 free_on mode gathered notes (inl is) = inl is
@@ -131,7 +131,7 @@ free_on (Sums at) gathered notes (inr none) = inr (append-nil gathered ∙ none)
 
 module _ (script : List ℕ → Script) (t : Tale) (words : List ℕ) (events : List Event) (flushed taken : List ℕ)
     (base held : Option (List ℕ)) (gathered : List Piece) where
-  -- what was due so far, and what is due for the words, where all of that is gathered
+  -- the output so far and the lines of the words, with all of those lines buffered
   abbrev pub GathersWords : Mode → Type 0
   GathersWords mode = Gathers (WasDue mode script (events ++ word_events words) flushed taken) base
       (lines_of mode (after_words t words)) held (gathered ++ pieces_for mode (word_notes t words))
@@ -146,7 +146,7 @@ module _ (script : List ℕ → Script) (t : Tale) (words : List ℕ) (events : 
       (WasDue mode script (events ++ word_events words) flushed taken) base (lines_of mode t) held gathered
       (due_on mode script events (word_events words) flushed taken) so_far)
 
-  -- they are the lines of the notes, or none
+  -- The lines of the words are those of their notes, or there are none.
   gathers_words : (mode : Mode) → AreUnwatched mode words
       → (Gathers (WasDue Listing script events flushed taken) base (lines_of Listing t) held gathered
       → GathersWords Listing)
@@ -160,12 +160,12 @@ module _ (script : List ℕ → Script) (t : Tale) (words : List ℕ) (events : 
   gathers_words (Frames at) unwatched listing so_far = quiet_gathers (Frames at) tt so_far
   gathers_words (Sums at) unwatched listing so_far = quiet_gathers (Sums at) tt so_far
 
--- none is one too many of no bytes
+-- Of no bytes, none is unnecessary.
 none_needed : (p : Progress) → ReaderNeeds p []
 none_needed p [] more is some = absurd (some (sym is))
 none_needed p (x ∷ part) more is some = absurd cc
 
--- a rig that stands for a tale is told it
+-- The GPU, the taps and the store steps are those of the replay so far.
 pub told_before : (mode : Mode) (script : List ℕ → Script) (before : Streams) (left held : Option (List ℕ))
     (heard : List Reading) (steps : ℕ) (gathered : List Piece) (since : ℕ) (was : RigState) (p : Progress)
     (reached : Reaches mode script before (streams left held heard steps) gathered was (GoesOn mode script since p))
@@ -179,7 +179,7 @@ told_before mode script before left held heard steps gathered since was p reache
   cost = let c = reached.cost in omega (arith, c);
 }
 
--- ---- words that were taken and played: as if all their lines were gathered yet
+-- ---- words that were read and played, as if all their lines were still buffered
 
 module _ (mode : Mode) (script : List ℕ → Script) (before : Streams) (left after held : Option (List ℕ))
     (heard heard_now : List Reading) (steps steps_now : ℕ) (gathered : List Piece) (since : ℕ) (was rig : RigState)
@@ -275,7 +275,7 @@ module _ (mode : Mode) (script : List ℕ → Script) (before : Streams) (left a
         cost = let e = unwatched_cost mode t words unwatched in let c = told.cost in omega (arith, e, c);
       }
 
--- ---- what was gathered may be out
+-- ---- buffered lines may have been written
 
 pub lines_out : (mode : Mode) (script : List ℕ → Script) (before : Streams) (left held now : Option (List ℕ))
     (heard : List Reading) (steps : ℕ) (gathered pieces new : List Piece) (rig : RigState)
@@ -306,7 +306,7 @@ lines_out mode script before left held now heard steps gathered pieces new rig S
   cost = reached.cost;
 }
 
--- fewer events are still to be played
+-- Fewer events remain to be played.
 pub left_less : (old mid new : Progress) (was next : Result Event Stop) (event : Event) → was ≡ Ok event
     → work_left mid ≤ work_left old → OnOk next (work_left new < work_left mid)
     → events_left new next < events_left old was

@@ -1,4 +1,4 @@
--- Lines of an event that were gathered, and could not be written.
+-- Lines of an event that were buffered and could not be written.
 use Rattle.std.proofs.Common.{◌≡◌, ◌≤◌, inl, inr, ◌+◌, ◌++◌, ℕ, List, [], ◌∷◌, Ok, length, length-append, refl}
 use Rattle.std.proofs.Common.{ap, sym, subst, ◌∙◌, append_assoc, append-nil, arith}
 use Rattle.gathered_out.proofs.Gathers.{BreaksDue}
@@ -18,8 +18,8 @@ use Rattle.event_play.specs.declared.ending.Mode.{Mode}
 use Rattle.event_play.proofs.Grows.{out_grows}
 use Rattle.event_play.specs.Course.{course, tales}
 
--- these lines are due at the event of this number, one of these, behind those that were due before; the bytes that were
--- taken up to it begin with those that were when all was last written
+-- `due` is the lines of event `number`, one of these, and follows the output `was`. `flushed`: the bytes read at the
+-- last flush. The bytes that this event needs start with them.
 pub record WasDue (mode : Mode) (script : List ℕ → Script) (read : List Event) (flushed taken : List ℕ) (number : ℕ)
     (was due : List ℕ) : Type 0 where
   pub first : Tale
@@ -40,7 +40,7 @@ pub record WasDue (mode : Mode) (script : List ℕ → Script) (read : List Even
   pub taken_is : taken ≡ (flushed ++ between) ++ rest
   pub needed : AreNeeded (reads script) (earlier ++ event ∷ []) (flushed ++ between)
 
--- where more events come, and more bytes are taken
+-- the same after further events and bytes are read
 pub due_more : (mode : Mode) (script : List ℕ → Script) (events more all : List Event) (flushed taken further : List ℕ)
     → all ≡ events ++ more → (number : ℕ) (was due : List ℕ)
     → WasDue mode script events flushed taken number was due
@@ -67,7 +67,7 @@ due_more mode script events more all flushed taken further all_are number was du
   needed = is.needed;
 }
 
--- where more events come
+-- the same after further events are read
 pub due_on : (mode : Mode) (script : List ℕ → Script) (events more : List Event) (flushed taken : List ℕ)
     (number : ℕ) (was due : List ℕ)
     → WasDue mode script events flushed taken number was due
@@ -77,7 +77,7 @@ due_on mode script events more flushed taken number was due is =
     subst P (append-nil taken)
     (due_more mode script events more (events ++ more) flushed taken [] refl number was due is)
 
--- the last of the events
+-- the lines of the last event read
 pub due_here : (mode : Mode) (script : List ℕ → Script) (first t next : Tale) (events : List Event) (event : Event)
     (flushed behind taken due : List ℕ) → ((rest : List ℕ) → (script (taken ++ rest)).first ≡ first)
     → Follows first events t → taken ≡ flushed ++ behind
@@ -105,14 +105,14 @@ due_here mode script first t next events event flushed behind taken due begins f
       needed = rw (← taken_is) needed;
     }
 
--- ---- all that is written
+-- ---- the whole output
 
 same_first : (first other : Tale) (events : List Event) (t : Tale) → first ≡ other → Follows first events t
     → Follows other events t
 same_first first other events t same follows =
     let P : Tale → Type 0 = λ start. Follows start events t in subst P same follows
 
--- the replay goes on behind an event
+-- the replay continues after an event
 plays_behind : (script : List ℕ → Script) (first t next : Tale) (bytes : List ℕ) (earlier : List Event) (event : Event)
     (later read : List Event) (c : Captured) → (script bytes).first ≡ first → reads script bytes ≡ then_events read c
     → read ≡ earlier ++ event ∷ later → Follows first earlier t → after_event t event ≡ Ok next
@@ -127,7 +127,7 @@ plays_behind script first t next bytes earlier event later read c begins says ar
     ∙ ap (λ r. go_on r (λ next. played_events next (later ++ c.events) c.ending c.rest)
     (λ fault. record { tale = t; ending = Faulted (next_number t.played) fault; rest = c.rest })) is
 
--- what is due at an event begins what is written behind the tale before it
+-- In the whole output, the lines of an event follow those of the replay before it.
 writes_behind : (mode : Mode) (heard : List Reading) (script : List ℕ → Script) (t next : Tale) (bytes due : List ℕ)
     (events : List Event) (stop : Stop) (rest : List ℕ)
     → plays script bytes ≡ played_events next events stop rest → lines_of mode next ≡ lines_of mode t ++ due
@@ -139,7 +139,7 @@ writes_behind mode heard script t next bytes due events stop rest is lines =
           ∙ append_assoc (lines_of mode t) due grows.0,
     )
 
--- ---- what lacks a byte
+-- ---- incomplete output
 
 module _ (mode : Mode) (script : List ℕ → Script) (before now : Streams) (first last : Tale) (version : ℕ)
     (read : List Event) (flushed taken : List ℕ) (number : ℕ)

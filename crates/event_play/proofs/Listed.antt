@@ -1,4 +1,4 @@
--- Lines of notes of words that are played at once, an event each.
+-- Lines of notes of words that are played as one block, one event per word.
 use Rattle.std.proofs.Common.{◌≡◌, ◌==◌, ℕ, ◌+◌, List, [], ◌∷◌, ◌++◌, not, flat_map, map, Option, Some}
 use Rattle.std.proofs.Common.{None, Result, Ok, Err, OnOk, IfErr, inl, inr, option_to_list, refl, ap, sym, ◌∙◌, subst}
 use Rattle.std.proofs.Common.{append_assoc, append-nil, arith}
@@ -40,7 +40,7 @@ word_notes-append t (x ∷ xs) ys =
     ap (λ notes. one ++ notes) (word_notes-append (after_word t x) xs ys)
     ∙ sym (append_assoc one (word_notes (after_word t x) xs) (word_notes (after_words (after_word t x) xs) ys))
 
--- they are those that the drawing processor gives
+-- These are the notes that the GPU returns.
 pub notes_fed : (t : Tale) (words : List ℕ) → word_notes t words ≡ feed_notes t.state.gpu (t.played + 1) words
 notes_fed t [] = refl
 notes_fed t (word ∷ words) =
@@ -55,9 +55,9 @@ listed_pieces-append xs ys =
     ap (map line) (filter-append (λ (note : Note). not (note.class == 9)) xs ys)
     ∙ map-append line (but_pixels xs) (but_pixels ys)
 
--- ---- pieces that are put
+-- ---- pieces that are added
 
--- these were put, and then others were put or not
+-- These were added, and then others were added or could not be written.
 pub put_on : {Value : Type 0} (before mid now : Holding) (ps qs : List Piece) (result : Result Value ℕ)
     → ArePut ps before mid → PutsPieces qs mid now result → PutsPieces (ps ++ qs) before now result
 put_on {Value = Value} before mid now ps qs result first then = record {
@@ -87,11 +87,11 @@ put_on {Value = Value} before mid now ps qs result first then = record {
     failed (Ok v) breaks = tt
     failed (Err lacking) breaks = record { off = λ base all out. breaks.off base all (both base all out) }
 
--- none were put
+-- none were added
 pub none_put : (at : Holding) → ArePut [] at at
 none_put at = record { out = λ base all out. rw (append-nil at.gathered) at out }
 
--- the writing broke off, and more pieces are due
+-- If writing breaks off among some pieces, it breaks off among more pieces.
 pub breaks_more : (before now : Option (List ℕ)) (ps qs : List Piece) (lacking : ℕ)
     → BreaksWriting before now ps lacking → BreaksWriting before now (ps ++ qs) lacking
 breaks_more before now ps qs lacking breaks = record {
@@ -109,7 +109,7 @@ breaks_more before now ps qs lacking breaks = record {
       };
 }
 
--- one piece was put, as the call that puts it says
+-- one piece was added, as the call that adds it states
 pub put_piece : {Value : Type 0} (p : Piece) (before now : Holding) (result : Result Value ℕ)
     → ((base : Option (List ℕ)) (all : List Piece) → AreOut base all before.held before.gathered
     → OnOk result (AreOut base (all ++ p ∷ []) now.held now.gathered))
@@ -132,9 +132,9 @@ put_piece p before now (Err lacking) ok failed = record {
       (record { off = λ base all out. failed base all out });
 }
 
--- ---- words, and the first of those behind them
+-- ---- words, and the first of those after them
 
--- their pieces and those of the note that the others give are those of all
+-- the pieces of the first words and of the note of the others are those of all words
 pub pieces_on : (t : Tale) (xs ys all : List ℕ) (given : Option Note) → xs ++ ys ≡ all
     → but_pixels (word_notes (after_words t xs) ys) ≡ but_pixels (option_to_list given)
     → listed_pieces (word_notes t xs) ++ listed_pieces (option_to_list given) ≡ listed_pieces (word_notes t all)
@@ -145,7 +145,7 @@ pieces_on t xs ys all given both gives =
     ∙ sym (listed_pieces-append (word_notes t xs) (word_notes (after_words t xs) ys))
     ∙ ap listed_pieces (sym (word_notes-append t xs ys)) ∙ ap (λ words. listed_pieces (word_notes t words)) both
 
--- where the writing broke off among those of the first words, it did among those of all
+-- If writing breaks off among the pieces of the first words, it breaks off among those of all.
 pub fails_on : {Value : Type 0} (before now : Holding) (t : Tale) (xs ys all : List ℕ) (lacking : ℕ) → xs ++ ys ≡ all
     → PutsPieces {Value = Value} (listed_pieces (word_notes t xs)) before now (Err lacking)
     → PutsPieces {Value = Value} (listed_pieces (word_notes t all)) before now (Err lacking)
@@ -166,7 +166,7 @@ fails_on before now t xs ys all lacking both fails =
 
 -- ---- the pieces of a word
 
--- the line of a note is one of its event
+-- the line of a note is a piece of its event
 one_piece : (note : Note) → ArePieces note.event (flat_map listed (note ∷ [])) (listed_pieces (note ∷ []))
 one_piece note = elim (cases_Bool (note.class == 9)) [
   | inl is ↦ rw is (record { numbers = tt; bytes_are = refl })
@@ -184,7 +184,7 @@ word_pieces : (s : State) (event word : ℕ) → ArePieces event (flat_map liste
 unfolding gp0_note
 word_pieces s event word = item_pieces s.parts.regs event (new_item s.words word)
 
--- pieces that are gathered behind others are put
+-- Pieces that were added to the buffer count as put.
 put_gathered : (number : ℕ) (bytes : List ℕ) (held : Option (List ℕ)) (gathered parts : List Piece)
     → ArePieces number bytes parts
     → IsPut (piece number bytes) (holding held gathered) (holding held (gathered ++ parts))
@@ -198,12 +198,12 @@ put_gathered number bytes held gathered parts are = record {
   };
 }
 
--- ---- words behind what was gathered so far
+-- ---- words after what was buffered so far
 
 module _ (script : List ℕ → Script) (first : Tale) (flushed behind further taken : List ℕ) (base held : Option (List ℕ))
     (begins : (rest : List ℕ) → (script (taken ++ rest)).first ≡ first)
     (taken_is : taken ≡ (flushed ++ behind) ++ further) where
-  -- no byte of the words is needed for those before them
+  -- The events before a word need no byte of the words.
   word_due : (t : Tale) (events : List Event) (word : ℕ) → Follows first events t
       → AreNeeded (reads script) events (flushed ++ behind)
       → WasDue Listing script (events ++ Gp0 word ∷ []) flushed taken (next_number t.played) (lines_of Listing t)

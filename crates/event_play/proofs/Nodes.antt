@@ -15,12 +15,12 @@ use Rattle.event_play.specs.declared.words.NodeList.{NodeList}
 
 -- ---- blocks
 
--- one word more
+-- one more word
 words_next : (ram : List ℕ) (block : Block) (i word : ℕ) → word ≡ word_at ram (address_in block i)
     → first_words ram block (i + 1) ≡ first_words ram block i ++ word ∷ []
 words_next ram block i word is = let e : i + 1 ≡ suc i = omega arith in rw (e, is) refl
 
--- the first words of a block, and those behind them
+-- the first i words of a block, and the `count` words after them
 words_split : (ram : List ℕ) (block : Block) (i count : ℕ)
     → first_words ram block (i + count) ≡ first_words ram block i ++ words_from ram block i count
 words_split ram block i zero = let e : i + 0 ≡ i = omega arith in rw (e, append-nil) refl
@@ -32,7 +32,7 @@ words_split ram block i (suc count) =
     ∙ ap (λ words. words ++ rest) (words_next ram block i word refl)
     ∙ append_assoc (first_words ram block i) (word ∷ []) rest
 
--- all words of a block, and what comes behind it
+-- all words of a block, and those that follow it
 pub left_whole : (ram : List ℕ) (block : Block) (behind : Behind)
     → words_left ram block 0 behind ≡ block_words ram block ++ behind_words ram behind
 left_whole ram block behind =
@@ -41,14 +41,14 @@ left_whole ram block behind =
     ap (λ words. words ++ behind_words ram behind)
     (ap (words_from ram block 0) count ∙ sym (words_split ram block 0 block.n) ∙ ap (first_words ram block) end)
 
--- a word of it, and those that are left then
+-- one word of the block, and those left after it
 pub left_goes : (ram : List ℕ) (block : Block) (at : ℕ) (behind : Behind) (word : ℕ) → at < block.n
     → word ≡ word_at ram (address_in block at)
     → words_left ram block at behind ≡ word ∷ words_left ram block (at + 1) behind
 left_goes ram block at behind word below is =
     let more : block.n - at ≡ suc (block.n - (at + 1)) = omega (arith, below) in rw (more, is) refl
 
--- a block has no word left, and its nodes have words
+-- The block has no word left, and the next node with words follows.
 pub left_enters : (ram : List ℕ) (block : Block) (at : ℕ) (list : NodeList) (node : Node) (word : ℕ) → block.n ≤ at
     → IsNextNode ram list node → word ≡ word_at ram (address_in node.words 0)
     → words_left ram block at (Nodes list) ≡ word ∷ words_left ram node.words 1 node.behind
@@ -67,7 +67,7 @@ behind-next ram address (suc n) =
     let e : address + 4 * suc n + 4 ≡ address + 4 + 4 * n + 4 = omega arith in
     rw e (ap (λ words. word_at ram (address + 4) ∷ words) (behind-next ram (address + 4) n))
 
--- the word that an address names is that of the whole address
+-- `cut` does not change which word of memory an address names.
 word_cut : (ram : List ℕ) (address : ℕ) → word_at ram (cut address) ≡ word_at ram address
 word_cut ram address = let e : place_of (cut address) ≡ place_of address = omega arith in rw e refl
 
@@ -88,7 +88,7 @@ pub node_block : (ram : List ℕ) (node n : ℕ) → n ≡ word_count ram node
     → block_words ram (record { at = node + 4; n = n; back = false }) ≡ node_words ram node
 node_block ram node n is = node_first ram node n n ∙ ap (words_behind ram node) is
 
--- a node that has none
+-- a node without words
 pub node_none : (ram : List ℕ) (node : ℕ) (block : Block) → block_words ram block ≡ node_words ram node → block.n ≤ 0
     → node_words ram node ≡ []
 node_none ram node block are none =
@@ -115,7 +115,7 @@ unfolding chain
 chain_goes ram address zero next e on = absurd (omega (arith, e))
 chain_goes ram address (suc n) next e on = let same : next ≡ n = omega (arith, e) in rw (on, same) refl
 
--- no more nodes are looked at
+-- no more nodes are visited
 pub nodes_none : (ram : List ℕ) (start limit : ℕ) → limit ≡ 0
     → nodes_words ram (record { start = start; limit = limit }) ≡ []
 unfolding chain
@@ -126,7 +126,7 @@ pub nodes_end : (ram : List ℕ) (start limit : ℕ) → None ≡ node_of start
     → nodes_words ram (record { start = start; limit = limit }) ≡ []
 nodes_end ram start limit at = ap (flat_map (node_words ram)) (chain_ends ram start limit (ends_there start at))
 
--- a node, and those behind it
+-- a node, and those after it
 pub nodes_go : (ram : List ℕ) (start node limit next then : ℕ) → next + 1 ≡ limit → Some node ≡ node_of start
     → then ≡ next_of ram node
     → nodes_words ram (record { start = start; limit = limit })

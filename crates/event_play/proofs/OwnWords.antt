@@ -1,4 +1,4 @@
--- Words that are fed to a rig with no capture.
+-- Words that are fed to a rig without a capture.
 use Rattle.std.proofs.Common.{◌≡◌, ℕ, List, [], ◌∷◌, refl, ◌∙◌, arith}
 use Rattle.gpu_core.specs.Kept.{Kept}
 use Rattle.gpu_taps.specs.Tally.{Reading}

@@ -23,7 +23,7 @@ no_words : (before : List ℕ) (word : ℕ) (after : List ℕ) → [] ≡ before
 no_words [] word after are = absurd cc
 no_words (x ∷ xs) word after are = absurd cc
 
--- what a work does that feeds these words
+-- what an operation that feeds these words does
 pub record WorkFeeds (s : Machine) (number : ℕ) (words : List ℕ) (asked : Result Work EventFault) : Type 0 where
   pub machine : Machine
   pub is : stepped s number asked ≡ Ok
@@ -49,13 +49,13 @@ event_feeds s number event before word after are =
     let feeds = asked_feeds s number (work_of s.ram s.running event) before word after are in
     record { machine = feeds.machine; is = feeds.is; cost = feeds.cost }
 
--- and is no word of GP1
+-- Such an event is no write to GP1.
 pub no_frames : (s : Machine) (event : Event) (number : ℕ) (parts : Parts) (before : List ℕ) (word : ℕ) (after : List ℕ)
     → event_words s event ≡ before ++ word ∷ after → frames_behind event number parts ≡ []
 no_frames s (event.Gp1 x) number parts before word after are = absurd (no_words before word after are)
 no_frames s other number parts before word after are = refl
 
--- what the first words cost is within what the event costs
+-- The first words cost no more than the event.
 pub part_cost : (mode : Mode) (s : State) (number : ℕ) (before : List ℕ) (word : ℕ) (after : List ℕ)
     (all steps_before steps_now : ℕ)
     → all ≡ fed_cost s (before ++ word ∷ after)

@@ -1,4 +1,4 @@
--- Events that were played while their lines were written.
+-- Events that are played while their output is written.
 use Rattle.std.proofs.Common.{◌≡◌, ◌≤◌, ◌⊎◌, inl, inr, ◌+◌, ℕ, List, [], ◌∷◌, ◌++◌, Option, None, Ok, option_to_list}
 use Rattle.std.proofs.Common.{refl, ap, subst, ◌∙◌, append-nil, sym, arith}
 use Rattle.dev_io.specs.Device.{appended, AppendsPart}
@@ -34,7 +34,7 @@ use Rattle.event_play.proofs.Putting.{breaks_at, held_same, never_both, put_at, 
 use Rattle.event_play.specs.Setting.{Setting, setting}
 use Rattle.event_play.specs.Step.{showing}
 
--- first the lines of words, and then what is due behind the event
+-- the lines of words, and then the output after the event
 pub lines_both : (mode : Mode) (shown : List ℕ) (frames : List Frame) (notes : List Note) (strokes : List Stroke)
     → lines_while mode notes strokes ++ lines_behind mode shown frames ≡ lines_for mode shown frames notes strokes
 lines_both Words shown frames notes strokes = refl
@@ -57,7 +57,7 @@ costs_both Vram frames strokes = refl
 costs_both Shot frames strokes = refl
 costs_both Report frames strokes = refl
 
--- what is written behind its event is no line of a word
+-- A mode with output after an event has no lines of words.
 while_none : (mode : Mode) (notes : List Note) (strokes : List Stroke) → WritesBehind mode
     → lines_while mode notes strokes ≡ []
 while_none Words notes strokes behind = refl
@@ -75,7 +75,7 @@ still_free mode old new (inl is) free = inl is
 still_free mode old new (inr same) (inl is) = inl is
 still_free mode old new (inr same) (inr none) = inr (same ∙ none)
 
--- no line of a word leaves the sink as it was where nothing is gathered
+-- If the buffer is empty and no line of a word is added, the sink is unchanged.
 unwritten : (mode : Mode) (number : ℕ) (bytes : List ℕ) (before now : Option (List ℕ)) (old new : List Piece)
     → WritesBehind mode → IsGathered mode ⊎ (new ≡ old) → MayGather mode old → bytes ≡ []
     → IsPut (piece number bytes) (holding before old) (holding now new) → now ≡ before
@@ -96,14 +96,14 @@ module _ (mode : Mode) (was mid rig : RigState) (t : Tale) (counted : ℕ) (even
     → IsPut (work_lines (in_event counted mode) (machine_of was s) asked) (holding before.held before.gathered)
     (holding now.held now.gathered))
     (kept : IsGathered mode ⊎ (now.gathered ≡ before.gathered)) (free : MayGather mode before.gathered) where
-  -- behind what is due behind the event
+  -- after the output of the event was written
   abbrev written : Outlets
   written = record now { held = held; faults = faults; steps = steps }
 
   abbrev counts : RigState
   counts = record mid { played = counted }
 
-  -- the step, by the number of the tale
+  -- the step, with the replay's number for the event
   abbrev by_tale : (at : ℕ)
       → HasStepped t.state (numbered counted event) shown before (setting (record now { steps = at }) counts)
       → HasStepped t.state (numbered (next_number t.played) event) shown before
@@ -120,7 +120,7 @@ module _ (mode : Mode) (was mid rig : RigState) (t : Tale) (counted : ℕ) (even
   did : HasDone mode t.state counted event shown before now counts
   did = has_done mode was mid rig counted counted event asked shown before now is same does t.state stands.state
 
-  -- the frames behind the event, by the rig and by the machine behind it
+  -- the frames after the event, by the rig and by the machine after it
   abbrev frames : List Frame
   frames = frames_behind event counted mid.gpu.parts
 
@@ -137,7 +137,7 @@ module _ (mode : Mode) (was mid rig : RigState) (t : Tale) (counted : ℕ) (even
   strokes_are : strokes ≡ event_strokes t.state (next_number t.played) event
   strokes_are = ap (λ n. event_strokes t.state n event) number
 
-  -- all lines of the event
+  -- all output of the event
   lines_are : lines_while mode did.step.notes strokes ++ lines_behind mode words frames
       ≡ event_lines mode (coming t event) (showing did.step.machine shown did.step.notes)
   lines_are = lines_both mode words frames did.step.notes strokes
@@ -148,7 +148,7 @@ module _ (mode : Mode) (was mid rig : RigState) (t : Tale) (counted : ℕ) (even
   asked_are : asked_words was.ram (Ok asked) ≡ event_words t.state event
   asked_are = rw (stands.state.ram, stands.state.running, ← is) refl
 
-  -- those of its words were put
+  -- the lines of its words were added
   words_put : IsPut (piece counted (lines_while mode did.step.notes strokes)) (holding before.held before.gathered)
       (holding now.held now.gathered)
   words_put =
@@ -208,7 +208,7 @@ module _ (mode : Mode) (was mid rig : RigState) (t : Tale) (counted : ℕ) (even
         spent = all_spent spent;
       }
 
--- its words were fed up to one whose line could not be put
+-- its words were fed up to one whose line could not be written
 pub feeds_part : (mode : Mode) (was rig : RigState) (t : Tale) (counted : ℕ) (event : Event) (asked : Work)
     (before now : Outlets) (lacking : ℕ) → Ok asked ≡ work_of was.ram was.running event → StandsFor was t
     → counted ≡ next_number t.played → IsGathered mode
@@ -238,11 +238,11 @@ feeds_part mode was rig t counted event asked before now lacking is stands numbe
       played = stands.played ∙ sym played;
     }
 
--- nothing is written behind an event that neither shows a word nor is a moment
+-- Nothing is written after an event that neither shows a word nor has a frame.
 pub nothing_behind : (mode : Mode) (held : Option (List ℕ)) → held ≡ appended held (lines_behind mode [] [])
 nothing_behind mode held = sym (ap (appended held) (lines-none mode) ∙ appended-nil held)
 
--- ---- a word that is written to GP0
+-- ---- a word written to GP0
 
 module _ (mode : Mode) (was : RigState) (counted word : ℕ) (before now : Outlets) (gpu : Kept) (s : State) where
   abbrev pub fed_now : Setting

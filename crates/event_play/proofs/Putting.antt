@@ -1,4 +1,4 @@
--- Lines that are put for events, and what is written behind them.
+-- Lines that are added for events, and the output after events.
 use Rattle.std.proofs.Common.{◌≡◌, inl, inr, ℕ, List, [], ◌∷◌, ◌++◌, Option, Result, Ok, refl, ap, sym}
 use Rattle.std.proofs.Common.{◌∙◌, append-nil, arith}
 use Rattle.dev_io.specs.Device.{appended}
@@ -28,7 +28,7 @@ breaks_at n m xs ys before now lacking number same put = rw (← number, ← sam
 
 -- ---- no bytes
 
--- nothing was put
+-- nothing was added
 pub puts_none : {Value : Type 0} (number : ℕ) (bytes : List ℕ) (before now : SinkState) (v : Value) → bytes ≡ []
     → now.held ≡ before.held → now.faults ≡ before.faults → now.gathered ≡ before.gathered
     → Puts {Value = Value} (piece number bytes) before now (Ok v)
@@ -48,9 +48,9 @@ puts_none number bytes before now v none held faults gathered = record {
           out = λ base pieces out. rw (append-nil pieces) out;
         })
 
--- ---- what is written behind an event
+-- ---- the output after an event
 
--- the lines of items are put while they come
+-- A mode that buffers lines has no output after an event.
 behind_none : (mode : Mode) (shown : List ℕ) (frames : List Frame) → IsGathered mode
     → lines_behind mode shown frames ≡ []
 behind_none Listing shown frames is = refl
@@ -62,7 +62,7 @@ behind_none Report shown frames is = absurd is
 behind_none (Frames at) shown frames is = absurd is
 behind_none (Sums at) shown frames is = absurd is
 
--- what is written behind events is never gathered
+-- No mode has both output after an event and buffered lines.
 pub never_both : (mode : Mode) → WritesBehind mode → IsGathered mode → ⊥
 never_both Listing behind is = behind
 never_both (Pixel cell) behind is = behind
@@ -73,7 +73,7 @@ never_both Report behind is = is
 never_both (Frames at) behind is = is
 never_both (Sums at) behind is = is
 
--- bytes that are written where nothing is gathered
+-- bytes that are written with an empty buffer
 pub put_through : (number : ℕ) (bytes : List ℕ) (before now : Option (List ℕ)) → now ≡ appended before bytes
     → IsPut (piece number bytes) (holding before []) (holding now [])
 put_through number bytes before now wrote = record {
@@ -102,7 +102,7 @@ put_unchanged number bytes before now gathered none wrote = record {
       rw (same, append-nil pieces) out;
 }
 
--- what is due behind an event was written
+-- the output after an event was written
 pub put_behind : (mode : Mode) (number : ℕ) (shown : List ℕ) (frames : List Frame) (before now : Option (List ℕ))
     (gathered : List Piece) → MayGather mode gathered → now ≡ appended before (lines_behind mode shown frames)
     → IsPut (piece number (lines_behind mode shown frames)) (holding before gathered) (holding now gathered)
@@ -111,7 +111,7 @@ put_behind mode number shown frames before now gathered (inl is) wrote =
 put_behind mode number shown frames before now gathered (inr none) wrote =
     rw none (put_through number (lines_behind mode shown frames) before now wrote)
 
--- bytes were put, and then others
+-- bytes were added, and then others
 pub put_both : (number : ℕ) (xs ys : List ℕ) (before mid now : Option (List ℕ)) (old between new : List Piece)
     → IsPut (piece number xs) (holding before old) (holding mid between)
     → IsPut (piece number ys) (holding mid between) (holding now new)
@@ -123,7 +123,7 @@ put_both number xs ys before mid now old between new first last =
     (record { ok = last; failed = tt; cause = tt; faults = omega arith }) in
     on.put
 
--- where nothing may be gathered, no bytes put leave the sink as it was
+-- With an empty buffer before and after, adding no bytes leaves the sink unchanged.
 pub held_same : (number : ℕ) (before now : Option (List ℕ))
     → IsPut (piece number []) (holding before []) (holding now []) → now ≡ before
 held_same number before now put =

@@ -48,16 +48,16 @@ use Rattle.event_play.specs.Setting.{setting}
 use Rattle.event_play.specs.Step.{showing}
 use Rattle.event_play.specs.Course.{at_end, course, tales}
 
--- ---- one event more
+-- ---- one more event
 
--- the replay goes on from the tale with that event
+-- the replay continues from that with the event
 pub goes_on : (t next : Tale) (event : Event) (c : Captured) → after_event t event ≡ Ok next
     → replayed t (then_events (event ∷ []) c) ≡ replayed next c
 goes_on t next event c is =
     ap (λ r. go_on r (λ next. played_events next c.events c.ending c.rest)
     (λ fault. record { tale = t; ending = Faulted (next_number t.played) fault; rest = c.rest })) is
 
--- what was due, and what is due for an event
+-- the output so far, and that of an event
 lines_more : (mode : Mode) (t : Tale) (event : Event) (machine : Machine) (shown : Option ℕ) (notes : List Note)
     → lines_of mode (tale_on t event machine shown notes)
     ≡ lines_of mode t ++ event_lines mode (coming t event) (showing machine shown notes)
@@ -72,11 +72,11 @@ heard_on before mid now told notes was took = took ∙ ap (told_notes notes) was
 pub spent_on : (before mid now a b : ℕ) → mid ≤ before + a → now ≤ mid + b → now ≤ before + (a + b)
 spent_on before mid now a b was took = omega arith
 
--- two sums, part by part
+-- The sum of smaller parts is smaller.
 pub both_small : (a b c d : ℕ) → a ≤ c → b ≤ d → a + b ≤ c + d
 both_small a b c d first next = omega arith
 
--- what was spent, and what is spent on an event and on what is due for it
+-- the store steps so far, and those of an event and its output
 cost_on : (mode : Mode) (before mid at now : ℕ) (t : Tale) (event : Event) (machine : Machine) (shown : Option ℕ)
     (notes : List Note)
     → mid ≤ before + tale_cost mode t → at ≤ mid + event_cost t.state event
@@ -87,7 +87,7 @@ cost_on mode before mid at now t event machine shown notes was took spent =
     (event_strokes t.state (next_number t.played) event) in
     omega (arith, e, was, took, spent)
 
--- what is written behind its event is due there
+-- In a mode with output after an event, that output belongs to the event.
 due_behind : (mode : Mode) (t last : Tale) (event : Event) → WritesBehind mode → after_event t event ≡ Ok last
     → DueIn mode t t last event
 due_behind Words t last event behind is = (refl, is)
@@ -99,11 +99,11 @@ due_behind Vram t last event behind is = absurd behind
 due_behind Shot t last event behind is = absurd behind
 due_behind Report t last event behind is = absurd behind
 
--- what playing works on, with the bytes left of the source
+-- the sink, the taps and the store steps, with the bytes left of the source
 abbrev pub beside : Option (List ℕ) → Outlets → Streams
 beside left at = streams left at.held at.heard at.steps
 
--- all was written where nothing is gathered
+-- With an empty buffer, all output was written.
 pub held_all : (mode : Mode) (script : List ℕ → Script) (events : List Event) (flushed taken : List ℕ)
     (base : Option (List ℕ)) (all : List ℕ) (held : Option (List ℕ)) (gathered : List Piece) → gathered ≡ []
     → Gathers (WasDue mode script events flushed taken) base all held gathered → held ≡ appended base all
@@ -115,12 +115,12 @@ held_all mode script events flushed taken base all held gathered none gathers =
           out.stands ∙ ap (λ ps. appended mid (bytes_of ps)) (sym are);
     })
 
--- what is written behind its event is due where nothing is gathered
+-- In a mode with output after an event, the buffer is empty.
 none_gathered_for : (mode : Mode) (gathered : List Piece) → WritesBehind mode → MayGather mode gathered → gathered ≡ []
 none_gathered_for mode gathered behind (inl is) = absurd (never_both mode behind is)
 none_gathered_for mode gathered behind (inr none) = none
 
--- only where lines are gathered their writing breaks off
+-- A flush can fail only in a mode that buffers lines.
 pub gathers_of : (mode : Mode) (before now : Option (List ℕ)) (gathered : List Piece) (lacking : ℕ)
     → MayGather mode gathered → BreaksWriting before now gathered lacking → IsGathered mode
 gathers_of mode before now gathered lacking (inl is) breaks = is
@@ -140,7 +140,7 @@ gathers_of mode before now gathered lacking (inr none) breaks =
 module _ (mode : Mode) (script : List ℕ → Script) (before : Streams) (left : Option (List ℕ)) (mid now : Outlets)
     (since : ℕ) (was rig : RigState) (p : Progress) (event : Event)
     (reached : Awaits mode script before (beside left mid) mid.gathered since was p (Ok event)) where
-  -- what was due so far, and what is due for the event
+  -- the output so far, and that of the event
   put_on : (next : Tale) (due : List ℕ) → after_event reached.tale event ≡ Ok next
       → lines_of mode next ≡ lines_of mode reached.tale ++ due
       → IsPut (piece (next_number reached.tale.played) due) (holding mid.held mid.gathered)
@@ -194,8 +194,8 @@ module _ (mode : Mode) (script : List ℕ → Script) (before : Streams) (left :
   -- ---- an event that ends playing
 
   module _ (is_small : AreSmall (plays script)) where
-    -- an ending, by what it says, where the steps are those of a tale from which the replay goes on; what is gathered
-    -- may have been written since
+    -- an ending, from what it says; the store steps are those of a replay that continues, and the buffer may have been
+    -- flushed since
     ends_at : (t last : Tale) (ending : Ending) (held : Option (List ℕ))
         → SaysEnding (course mode script reached.taken) (tales t last)
         before (streams left held now.heard now.steps) ending → IsLast t last ending
@@ -217,7 +217,7 @@ module _ (mode : Mode) (script : List ℕ → Script) (before : Streams) (left :
           within_boxes mode (plays script) (reached.taken ++ rest) before.steps now.steps is_small (cost rest);
     }
 
-    -- of what was put so far, or was to be put for the event, a byte lacks
+    -- Of the lines so far and those of the event, a byte was not written.
     lines_lack : (number : ℕ) (last : Tale) (held : Option (List ℕ)) → IsGathered mode
         → BreaksDue (WasDue mode script (reached.events ++ event ∷ []) reached.flushed reached.taken) before.held held
         number
@@ -236,7 +236,7 @@ module _ (mode : Mode) (script : List ℕ → Script) (before : Streams) (left :
         (λ rest. (capture_from p rest, read.says rest, read.version_is rest)) leads (omega (arith, few, long, both)))
         tt stands heard cost
 
-    -- it has a fault, behind what is gathered
+    -- the event has a fault, and the buffer is flushed or the flush failed
     fault_ends : (number : ℕ) (fault : EventFault) (held : Option (List ℕ)) (result : Ending)
         → number ≡ next_number reached.tale.played
         → FaultsEvent (coming reached.tale event) fault (setting mid was) (setting now rig)

@@ -5,7 +5,7 @@ use Rattle.gpu_taps.specs.Tally.{Reading}
 use Rattle.packet_text.specs.Tap.{tap_line}
 
 module _ {T : Type 0} (heard : T → Reading) (taps : List T) (i : ℕ) where
-  -- the line of the next tap, and those behind it
+  -- the line of the next tap, and then the rest
   pub reports_next : (tap : T) → i < length taps → tap ≡ get_or taps i tap
       → flat_map tap_line (map heard (drop i taps)) ≡ tap_line (heard tap) ++ flat_map tap_line
       (map heard (drop (i + 1) taps))

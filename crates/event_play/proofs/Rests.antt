@@ -1,4 +1,4 @@
--- The bytes behind the events of a capture.
+-- The bytes after the events of a capture.
 use Rattle.std.proofs.Common.{◌≡◌, ℕ, List, [], ◌∷◌, Result, Ok, Err, refl}
 use Rattle.gpu_capture.specs.declared.event.Event.{Event}
 use Rattle.gpu_capture.specs.declared.event.Stop.TheVariants.{End}
@@ -9,7 +9,7 @@ use Rattle.event_play.specs.declared.fault.EventFault.{EventFault}
 abbrev SameBut : Played → Played → Type 0
 SameBut a b = (a.ending ≡ b.ending) × (a.tale ≡ b.tale)
 
--- the bytes behind a list of events do not matter to its replay
+-- The bytes after a list of events do not matter to its replay.
 pub rest_same : (events : List Event) (t : Tale) (rest : List ℕ)
     → SameBut (played_events t events End rest) (played_events t events End [])
 rest_same [] t rest = (refl, refl)

@@ -1,4 +1,4 @@
--- Each picture of a film is what `shot` writes of the events up to its moment.
+-- Each picture of a film is what `shot` writes for the events up to that picture.
 use Rattle.std.proofs.Common.{◌≡◌, ℕ, List, [], ◌∷◌, ◌++◌, Option, None, Some, Result, Ok, Err, if◌then◌else◌}
 use Rattle.std.proofs.Common.{refl, ap, sym, subst, ◌∙◌, append_assoc, append-nil, flat_map}
 use Rattle.std.proofs.lemmas.Grind.{flat_map-append}
@@ -22,7 +22,7 @@ use Rattle.event_play.specs.declared.ending.Moment.TheVariants.{Flip, Mark}
 use Rattle.event_play.specs.declared.fault.EventFault.{EventFault}
 use Rattle.event_play.proofs.Splits.{split_at, first_faultless}
 
--- what `shot` writes of a whole replay is the picture that is shown then, or nothing
+-- For a whole replay, `shot` writes the picture that is then shown, or nothing.
 shot_bytes : (heard : List Reading) (r : Played) → r.ending ≡ Done
     → out_bytes Shot heard r ≡ frame_bytes r.tale.state.gpu.parts
 unfolding frame_bytes final_bytes
@@ -36,7 +36,7 @@ shot_bytes heard r done = by_shape (shape_of r.tale.state.gpu.parts.regs) refl
         ap (λ ending. finals_at ending Shot (told_notes r.tale.notes heard) (next_number r.tale.played)
         r.tale.state.gpu) under
 
--- ---- one event more
+-- ---- one more event
 
 due_lines : (at : Moment) (event : Event) (number : ℕ) (parts : Parts)
     → flat_map (picture_at at) (frames_behind event number parts)
@@ -76,7 +76,7 @@ module _ (at : Moment) (s : Machine) (played : ℕ) where
       rw (shot_bytes [] (alone first (before ++ event ∷ [])) none, e)
       (lines_after at u event _ (rw e at none))
 
-  -- all lines behind those of the first events
+  -- all pictures after those of the first events
   lines_film : (events before : List Event) → AreFaultless first (before ++ events)
       → lines_of (Frames at) (alone first (before ++ events)).tale
       ≡ lines_of (Frames at) (alone first before).tale ++ film at s played before events

@@ -31,7 +31,7 @@ split_on : (t : Tale) (events more : List Event) (stop : Stop) (rest : List ℕ)
 split_on t events more stop rest (Ok next) behind is = behind next is
 split_on t events more stop rest (Err fault) behind is = absurd cc
 
--- a replay goes on from the tale behind events that have no fault
+-- A replay continues from the replay of its first events if these have no fault.
 pub split_at : (events more : List Event) (t : Tale) (stop : Stop) (rest : List ℕ) → AreFaultless t events
     → played_events t (events ++ more) stop rest ≡ played_events (alone t events).tale more stop rest
 split_at [] more t stop rest is = refl
@@ -45,16 +45,16 @@ first_on : (t : Tale) (events more : List Event) (stop : Stop) (rest : List ℕ)
 first_on t events more stop rest (Ok next) behind is = behind next is
 first_on t events more stop rest (Err fault) behind is = absurd cc
 
--- where a whole replay has no fault, its first events have none
+-- If a whole replay has no fault, its first events have none.
 pub first_faultless : (events more : List Event) (t : Tale) (stop : Stop) (rest : List ℕ)
     → (played_events t (events ++ more) stop rest).ending ≡ Done → AreFaultless t events
 first_faultless [] more t stop rest is = refl
 first_faultless (event ∷ events) more t stop rest is =
     first_on t events more stop rest (after_event t event) (λ u. first_faultless events more u stop rest) is
 
--- ---- a tale with a past
+-- ---- a replay with a past
 
--- the past, and nothing behind it
+-- the past, and nothing after it
 none_behind : (t : Tale) → behind_past t (from_state t.state t.played) ≡ t
 none_behind t = rw (
   append-nil t.shown,
@@ -100,22 +100,21 @@ module _ (past : Tale) where
       (event_step now.state (next_number now.played) event))
       ∙ goes_behind now rest (after_event now event) on (λ u. replay_behind events u stop rest)
 
--- Events that are played on from a tale show, tell and cost what they do from its machine alone, and all this comes
--- behind what the tale has.
+-- What later events of a replay show, note, change and cost depends only on its machine, and is added to what it has.
 pub played_on : (t : Tale) (events : List Event) (stop : Stop) (rest : List ℕ)
     → played_events t events stop rest ≡ with_past t (played_events (from_state t.state t.played) events stop rest)
 played_on t events stop rest =
     ap (λ t. played_events t events stop rest) (sym (none_behind t))
     ∙ replay_behind t events (from_state t.state t.played) stop rest
 
--- ---- what is written
+-- ---- output
 
 pub lines_past : (mode : Mode) (past now : Tale)
     → lines_of mode (behind_past past now) ≡ lines_of mode past ++ lines_of mode now
 lines_past mode past now = lines-append mode past.shown now.shown past.frames now.frames past.notes now.notes
     past.strokes now.strokes
 
--- behind the lines of the past comes what is written of the rest, by taps that have heard the past
+-- the lines of the past, and then the output of the rest, with taps that recorded the past's notes
 pub out_past : (mode : Mode) (heard : List Reading) (past : Tale) (r : Played)
     → out_bytes mode heard (with_past past r) ≡ lines_of mode past ++ out_bytes mode (told_notes past.notes heard) r
 out_past mode heard past r =

@@ -1,4 +1,4 @@
--- Playing a capture, to where it stops: at a pause, or where the reader does.
+-- The end of playing a capture: a flush that failed at a pause, or a stop of the reader.
 use Rattle.std.proofs.Common.{◌≡◌, ◌≤◌, inl, inr, true, false, ℕ, ◌+◌, ◌++◌, List, [], ◌∷◌, Option, Err}
 use Rattle.std.proofs.Common.{refl, ap, sym, subst, ◌∙◌, append-nil, arith}
 use Rattle.std.proofs.Common.{length, length-append}
@@ -35,7 +35,7 @@ use Rattle.event_play.specs.Course.{at_end, course, tales}
 
 -- ---- a pause
 
--- what is gathered could not be written where the reading may pause
+-- the flush at a pause failed
 pub pause_ends : (mode : Mode) (script : List ℕ → Script) (before now : Streams) (gathered : List Piece) (since : ℕ)
     (rig : RigState) (p : Progress) (held : Option (List ℕ)) (lacking : ℕ)
     → Reaches mode script before now gathered rig (GoesOn mode script since p) → AreSmall (plays script)
@@ -73,11 +73,11 @@ pause_ends mode script before now gathered since rig p held lacking reached is_s
 
 -- ---- a stop of the reader
 
--- the number behind the last event, by what a rig has counted
+-- the number of the next event, by the rig's count
 number_of : (rig : RigState) (t : Tale) → StandsFor rig t → next_number rig.played ≡ next_number t.played
 number_of rig t stands = ap next_number (sym stands.played)
 
--- how a whole replay ends under a mode
+-- how a whole replay ends in a mode
 shown_ends : (mode : Mode) (t : Tale) → lacks_picture mode t.state.gpu.parts.regs ≡ false
     → ending_under mode (whole t []) ≡ Done
 shown_ends mode t shows = rw shows refl
@@ -91,12 +91,12 @@ module _ (mode : Mode) (script : List ℕ → Script) (before : Streams) (left :
     (reached : Awaits mode script before (beside left mid) [] since rig p (Err stop))
     (is_small : AreSmall (plays script))
     (same : now.heard ≡ mid.heard) where
-  -- all that was due so far was written
+  -- all output so far was written
   pub stood : mid.held ≡ appended before.held (lines_of mode reached.tale)
   stood = held_all mode script reached.events reached.flushed reached.taken before.held (lines_of mode reached.tale)
       mid.held [] refl reached.gathers
 
-  -- an ending behind the last event, by what it says and what was spent on the output
+  -- an ending after the last event, from what it says and the store steps of the output
   ends_behind : (ending : Ending)
       → SaysEnding (course mode script reached.taken) (tales reached.tale reached.tale) before (beside left now) ending
       → IsLast reached.tale reached.tale ending
@@ -117,7 +117,7 @@ module _ (mode : Mode) (script : List ℕ → Script) (before : Streams) (left :
         within_boxes mode (plays script) (reached.taken ++ rest) before.steps now.steps is_small (cost rest);
   }
 
-  -- nothing was spent since the last event
+  -- no store step since the last event
   stop_costs : now.steps ≡ mid.steps → (rest : List ℕ) → now.steps ≤ before.steps + out_cost mode
       (plays script (reached.taken ++ rest))
   stop_costs steps rest = let grows = reached.says.costs rest in omega (arith, reached.cost, grows, steps)
@@ -248,9 +248,9 @@ module _ (mode : Mode) (script : List ℕ → Script) (before : Streams) (left :
       (stop_costs mode script before left mid now since rig p stop reached is_small same steps))
   stop_ends stop reached is_small same (Faulted number fault) ends = absurd ends
 
--- ---- the same, behind what is gathered
+-- ---- the same, after a flush of the buffer
 
--- it was written
+-- the buffer was flushed
 all_written : (mode : Mode) (script : List ℕ → Script) (before : Streams) (left : Option (List ℕ)) (was mid : Outlets)
     (since : ℕ) (rig : RigState) (p : Progress) (stop : Stop)
     → Awaits mode script before (beside left was) was.gathered since rig p (Err stop)
@@ -285,7 +285,7 @@ module _ (mode : Mode) (script : List ℕ → Script) (before : Streams) (left :
     (since : ℕ) (rig : RigState) (p : Progress) (stop : Stop)
     (reached : Awaits mode script before (beside left mid) mid.gathered since rig p (Err stop))
     (is_small : AreSmall (plays script)) where
-  -- it could not be written
+  -- the flush failed
   broken_ends : (lacking : ℕ) → BreaksWriting mid.held now.held mid.gathered lacking → now.heard ≡ mid.heard
       → now.steps ≡ mid.steps
       → ReadsAll script reached.tale reached.taken reached.events

@@ -1,4 +1,4 @@
--- Words of GP0 that are played at once, with the lines that are put for them, or where one can't be put.
+-- Words of GP0 that are played as one block, and their lines, of which one may not be written.
 use Rattle.std.proofs.Common.{◌≡◌, ◌≤◌, ◌<◌, ◌+◌, ◌++◌, inr, ℕ, List, Option, Result, Ok, Err, OnOk, IfErr, refl}
 use Rattle.gathered_out.specs.Pieces.{Piece}
 use Rattle.gathered_out.specs.Puts.{holding}
@@ -30,11 +30,11 @@ module _ (mode : Mode) (script : List ℕ → Script) (before : Streams) (left a
     (tells : (t : Tale) (first : Outlets) → IsTold t first (without_sink heard steps) was.gpu was.played
     → IsTold (after_words t words) first (without_sink heard_now steps_now) rig.gpu rig.played)
     (started : 1 ≤ q.version) (near : IsGathered mode → q.place < since + 4096) where
-  -- their pieces
+  -- their lines as pieces
   abbrev pieces : List Piece
   pieces = pieces_for mode (word_notes reached.tale words)
 
-  -- what a call says that puts them
+  -- what a call that adds them states
   abbrev pub PutsWords : {Value : Type 0} → (now : Option (List ℕ)) → (new : List Piece) → Result Value ℕ → Type 0
   PutsWords now new result = (t : Tale) (first : Outlets)
       → IsTold t first (without_sink heard steps) was.gpu was.played
@@ -46,7 +46,7 @@ module _ (mode : Mode) (script : List ℕ → Script) (before : Streams) (left a
   its_pieces now new result puts =
       puts reached.tale _ (told_before mode script before left held heard steps gathered since was p reached)
 
-  -- the reader stopped behind them, and nothing of theirs is written yet
+  -- The reader stopped after them, and none of their lines is written yet.
   stops_behind : (stop : Stop) → StopsBehind (standing p left) (standing q after) words stop
       → Awaits mode script before (streams after held heard_now steps_now) (gathered ++ pieces) since rig q (Err stop)
   stops_behind stop behind =
@@ -57,7 +57,7 @@ module _ (mode : Mode) (script : List ℕ → Script) (before : Streams) (left a
       (λ is. few_more mode script before mid (gathered ++ pieces) since rig q q after at started (near is)
       behind.stops.taken behind.stops.needed is)
 
-  -- all were put
+  -- all were added
   pub words_went : {Value : Type 0} (now : Option (List ℕ)) (new : List Piece) (v : Value)
       → PutsWords {Value = Value} now new (Ok v) → MayGather mode new
       → TakesWords (standing p left) (standing q after) words
@@ -68,7 +68,7 @@ module _ (mode : Mode) (script : List ℕ → Script) (before : Streams) (left a
       (words_play mode script before left after held heard heard_now steps steps_now gathered since was rig p q words
       reached unwatched ram running tells started near takes) (its_pieces now new (Ok v) puts).ok free
 
-  -- and then the reader stopped
+  -- all were added, and then the reader stopped
   pub words_stop : {Value : Type 0} (now : Option (List ℕ)) (new : List Piece) (v : Value) (stop : Stop)
       → PutsWords {Value = Value} now new (Ok v) → MayGather mode new
       → StopsBehind (standing p left) (standing q after) words stop
@@ -77,7 +77,7 @@ module _ (mode : Mode) (script : List ℕ → Script) (before : Streams) (left a
       lines_out mode script before after held now heard_now steps_now gathered pieces new rig
       (Answers mode script since q after (Err stop)) (stops_behind stop behind) (its_pieces now new (Ok v) puts).ok free
 
-  -- one could not be put
+  -- one could not be written
   pub words_fail : {Value Got : Type 0} (now : Option (List ℕ)) (new : List Piece) (lacking : ℕ)
       (read : Result Got Stop) → PutsWords {Value = Value} now new (Err lacking)
       → OnOk read (TakesWords (standing p left) (standing q after) words)

@@ -1,4 +1,4 @@
--- Transfers that go on turn by turn.
+-- Transfers that run in turns.
 use Rattle.std.proofs.Common.{◌≡◌, ◌≢◌, ◌≤◌, ◌<◌, ℕ, zero, suc, ◌+◌, ◌-◌, ◌*◌, ◌/◌, ◌%◌, ◌^◌, ◌++◌, min, List, [], ◌∷◌}
 use Rattle.std.proofs.Common.{None, Bool, true, false, true≢false, Result, Ok, Err, flat_map, get_or-set_other, ◌==◌}
 use Rattle.std.proofs.Common.{◌&&◌, not, length, nat_lt, refl, ap, sym, subst, ◌∙◌, append_assoc, append-nil, arith}
@@ -32,7 +32,7 @@ use Rattle.event_play.proofs.Nodes.{chain_ends, chain_goes}
 
 -- ---- blocks
 
--- the address of a later word, by that of one between
+-- the address of word k + i, from the address of word k
 address_on : (at n m : ℕ) (back : Bool) (k i : ℕ) → k + i ≤ 524288
     → address_in (record { at = address_in (record { at = at; n = n; back = back }) k; n = m; back = back }) i ≡
     address_in (record { at = at; n = n; back = back }) (k + i)
@@ -45,7 +45,7 @@ address_same : (at n m : ℕ) (back : Bool) (i : ℕ) → address_in (record { a
 unfolding address_in
 address_same at n m back i = refl
 
--- how many words a block has does not matter to its first
+-- The first words of a block do not depend on its number of words.
 words_same : (ram : List ℕ) (at n m : ℕ) (back : Bool) (i : ℕ)
     → first_words ram (record { at = at; n = n; back = back }) i ≡ first_words ram
     (record { at = at; n = m; back = back }) i
@@ -56,7 +56,7 @@ words_same ram at n m back (suc i) =
     ∙ ap (λ address. first_words ram (record { at = at; n = m; back = back }) i ++ word_at ram address ∷ [])
     (address_same at n m back i)
 
--- the words of a block, by its first and those from there on
+-- the first k words of a block, and the i words after them
 words_on : (ram : List ℕ) (at n m : ℕ) (back : Bool) (k i : ℕ) → k + i ≤ 524288
     → first_words ram (record { at = at; n = n; back = back }) (k + i)
     ≡ first_words ram (record { at = at; n = n; back = back }) k
@@ -71,7 +71,7 @@ words_on ram at n m back k (suc i) most =
     rw (e, ← address) (ap (λ words. words ++ word_at ram (address_in later i) ∷ []) (words_on ram at n m back k i less)
     ∙ append_assoc (first_words ram block k) (first_words ram later i) (word_at ram (address_in later i) ∷ []))
 
--- a block that begins at a whole word
+-- `cut` of the start address does not change the addresses of a block.
 start_cut : (at n : ℕ) (back : Bool) (i : ℕ) → i ≤ 524288
     → address_in (record { at = cut at; n = n; back = back }) i ≡ address_in (record { at = at; n = n; back = back }) i
 unfolding address_in
@@ -90,7 +90,7 @@ words_cut ram at n back (suc i) most =
 
 -- ---- walks
 
--- a whole word's address ends no list
+-- An address after `cut` ends no list.
 whole_goes : (address : ℕ) → is_end (cut address) ≡ false
 whole_goes address = let e : cut address / 2 ^ 23 % 2 ≡ 0 = omega arith in rw e refl
 
@@ -102,7 +102,7 @@ chain_cut ram address (suc n) on =
     let same : cut (cut address) ≡ cut address = omega arith in
     rw (on, whole, same) refl
 
--- a walk that ends, by its first node and the walk from the next one on
+-- a walk that ends: its first node, and the walk from the next one on
 node_on : (ram : List ℕ) (node n : ℕ) → cut node ≡ node → length (chain ram node n) < n
     → (flat_map (node_words ram) (chain ram node n) ≡ node_words ram node ++ flat_map (node_words ram)
     (chain ram (next_of ram node) n))
@@ -116,16 +116,16 @@ node_on ram node (suc m) whole short =
     let stays = chain_stays ram (next_of ram node) m (suc m) less (omega arith) in
     rw (goes, stays) (refl, omega (arith, less))
 
--- ---- what is left of a transfer, by a number of nodes that no walk of a list that ends has
+-- ---- the rest of a transfer; n: a number of nodes that no walk of a list that ends has
 
--- the words that are left
+-- the words left of a transfer
 abbrev left_words : (n : ℕ) → List ℕ → Run → List ℕ
 left_words n ram run.Idle = []
 left_words n ram (run.Words at left block back to_ram) =
     first_words ram (record { at = at; n = left; back = back }) left
 left_words n ram (run.List node) = flat_map (node_words ram) (chain ram node n)
 
--- it moves from main memory, and ends
+-- the transfer is from main memory, and ends
 abbrev Ends : (n : ℕ) → List ℕ → Run → Type 0
 Ends n ram run.Idle = Unit {0}
 Ends n ram (run.Words at left block back to_ram) = (to_ram ≡ false) × (left ≤ 524288)
@@ -141,7 +141,7 @@ record TurnDone (n : ℕ) (gpu : State) (ram : List ℕ) (running : Run) : Type 
   left : left_words n ram running ≡ words ++ left_words n ram next
   ends : Ends n ram next
 
--- what is left of words
+-- the rest of a transfer of words
 words_turn : (n : ℕ) (ram : List ℕ) (at left block : ℕ) (back : Bool) (k : ℕ) → k ≤ left → left ≤ 524288
     → first_words ram (record { at = at; n = left; back = back }) left
     ≡ first_words ram (record { at = at; n = k; back = back }) k
@@ -165,7 +165,7 @@ words_end : (n : ℕ) (ram : List ℕ) (at left block : ℕ) (back : Bool) → l
 words_end n ram at left block back most = elim (cases_Bool (left == 0))
     [ inl none ↦ rw none tt | inr some ↦ rw some (refl, most) ]
 
--- what is left of a list
+-- the rest of a list
 list_turn : (n : ℕ) (ram : List ℕ) (address : ℕ) → flat_map (node_words ram) (chain ram address n) ≡ left_words n ram
     (list_left (node_of address))
 list_turn n ram address = elim (cases_Bool (is_end address)) [
@@ -207,7 +207,7 @@ turn_done n gpu ram (run.List node) ends =
 
 -- ---- a write
 
--- the addresses that remain
+-- the addresses that remain to be read
 abbrev rest_of : (n : ℕ) → List ℕ → Run → List ℕ
 rest_of n ram run.Idle = []
 rest_of n ram (run.Words at left block back to_ram) = first_addresses (record { at = at; n = left; back = back }) left
@@ -224,7 +224,7 @@ apart-append address [] ys apart = (tt, apart)
 apart-append address (x ∷ xs) ys apart = let rest = apart-append address xs ys apart.1 in ((apart.0, rest.0), rest.1)
 
 module _ (ram : List ℕ) (address word : ℕ) where
-  -- a word elsewhere stays
+  -- A word at another address stays.
   word_stays : (other : ℕ) → cut other ≢ cut address → word_at (set ram address word) other ≡ word_at ram other
   word_stays other apart =
       let ne : place_of other ≢ place_of address = λ e. apart (ap (λ place. place * 4) e) in
@@ -279,7 +279,7 @@ module _ (ram : List ℕ) (address word : ℕ) where
       let same = chain_stays_so node n apart in
       (rw same (nodes_stay (chain ram node n) apart), (ends.0, rw same ends.1))
 
--- a plan of words has no more than memory
+-- A transfer of words has no more words than main memory.
 abbrev MostWords : Result Plan DmaFault → Type 0
 MostWords (Ok (plan.Words n back to_ram)) = n ≤ 524288
 MostWords other = Unit {0}
@@ -302,7 +302,7 @@ after_writes (event.Ram address word ∷ events) number gpu ram running =
     after_writes events (number + 1) gpu (set ram address word) running
 after_writes (other ∷ events) number gpu ram running = after_writes events number gpu ram running
 
--- the number of an event does not matter to the machine
+-- The machine after an event does not depend on the event's number.
 machine_same : (s : Machine) (number other : ℕ) (asked : Work)
     → (done s number asked).machine ≡ (done s other asked).machine
 machine_same s number other work.Nothing = refl
@@ -328,7 +328,7 @@ step_write : (gpu : State) (ram : List ℕ) (running : Run) (number address word
 unfolding event_step
 step_write gpu ram running number address word events = refl
 
--- nothing runs, so nothing was left
+-- If no transfer runs, no word was left.
 nothing_left : (n : ℕ) (gpu : State) (ram : List ℕ) (running : Run) (ended : Machine)
     → ◌≡◌ {A = Result Machine EventFault} (Ok (record { gpu = gpu; ram = ram; running = running })) (Ok ended)
     → ended.running ≡ run.Idle
@@ -346,7 +346,7 @@ words_walked : (n : ℕ) (ram : List ℕ) (start : ℕ) → walk_of ram start �
 unfolding list_words
 words_walked n ram start walk = ap (flat_map (node_words ram)) walk
 
--- turns and writes until nothing runs feed what was left
+-- Turns and writes until no transfer runs feed the words that were left.
 module _ (n : ℕ) (walk : (ram : List ℕ) (node : ℕ) → walk_of ram node ≡ chain ram node n)
     (short : (ram : List ℕ) (start : ℕ) → loop_of ram start ≡ None → length (chain ram start n) < n) where
   events_whole : (events : List Event) (number : ℕ) (gpu : State) (ram : List ℕ) (running : Run) (ended : Machine)
@@ -377,7 +377,7 @@ module _ (n : ℕ) (walk : (ram : List ℕ) (node : ℕ) → walk_of ram node �
 
   -- ---- the start
 
-  -- what a start begins, and what it does at once
+  -- the transfer that a start begins, and what the start does at once
   record Started (s started : Machine) (madr : ℕ) (planned : Result Plan DmaFault) : Type 0 where
     gpu : started.gpu ≡ s.gpu
     ram : started.ram ≡ s.ram

@@ -1,4 +1,4 @@
--- Works that feed no word.
+-- Operations that feed no word.
 use Rattle.std.proofs.Common.{◌≡◌, ℕ, [], Option, Ok, ap, ◌∙◌}
 use Rattle.gathered_out.specs.Puts.{Puts, SinkState}
 use Rattle.event_play.specs.Does.{work_lines}
@@ -9,7 +9,7 @@ use Rattle.event_play.specs.declared.work.Work.{Work}
 use Rattle.event_play.proofs.Grows.{lines-none}
 use Rattle.event_play.proofs.Putting.{puts_none}
 
--- nothing is put for one
+-- Such an operation adds no line.
 pub quiet_work : (mode : Mode) (s : Machine) (number : ℕ) (asked : Work) (before now : SinkState) (shown : Option ℕ)
     → asked_words s.ram (Ok asked) ≡ []
     → now.held ≡ before.held → now.faults ≡ before.faults → now.gathered ≡ before.gathered

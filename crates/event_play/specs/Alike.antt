@@ -9,14 +9,14 @@ use Rattle.event_play.specs.Replay.{Tale, Played, played_capture, played_events,
 use Rattle.event_play.specs.Step.{Machine}
 use Rattle.event_play.specs.declared.ending.Ending.TheVariants.{Done as PlayedWhole}
 
--- two replays showed the same words, and lead to the same status word and the same video memory
+-- Two replays showed the same words, and lead to the same status word and the same video memory.
 pub record AreAlike (a b : Tale) : Type 0 where
   pub shown : a.shown ≡ b.shown
   pub status : status_word a.state.gpu ≡ status_word b.state.gpu
   pub cells : a.state.gpu.parts.m ≡ b.state.gpu.parts.m
 
--- These bytes are a capture of such events of the ports alone. Playing it, whatever follows, is whole, and shows the
--- same words and leads to the same status word and the same video memory.
+-- These bytes are a capture of the events `flat`, which use only the ports. Playing it, whatever follows, ends with
+-- `Done`, shows the same words as `t`, and leads to the same status word and the same video memory.
 pub record IsFlatCapture (first t : Tale) (version : ℕ) (flat : List Event) (bytes : List ℕ) : Type 0 where
   pub ports : AreAtPorts flat
   pub reads : (after : List ℕ)
@@ -24,6 +24,6 @@ pub record IsFlatCapture (first t : Tale) (version : ℕ) (flat : List Event) (b
   pub whole : (after : List ℕ) → (played_capture first (bytes ++ after)).ending ≡ PlayedWhole
   pub alike : (after : List ℕ) → AreAlike (played_capture first (bytes ++ after)).tale t
 
--- events, replayed from a machine as if they were all of a capture
+-- events replayed from a machine as if they were a whole capture
 abbrev pub replay_of : Machine → List Event → Played
 replay_of s events = played_events (from_state s 0) events End []

@@ -3,7 +3,7 @@ use Rattle.std.specs.Prelude.{ℕ, zero, suc, List, [], ◌∷◌, ◌++◌, ◌
 use Rattle.ot_clear_dma.specs.Ram.{cut, memory_words, word_at}
 use Rattle.event_play.specs.declared.block.Block.{Block}
 
--- the address of the word at a place of a block: each 4 behind the one before it, or 4 before it
+-- the address of word `i` of a block: each is 4 after the one before it, or 4 before it if `back`
 unfoldable pub address_in : Block → ℕ → ℕ
 address_in block i = if block.back then cut (block.at + 2 ^ 21 - 4 * i) else cut (block.at + 4 * i)
 

@@ -1,4 +1,4 @@
--- How far a capture has come that is played, and what is due where it ends.
+-- The state of playing a capture, and the output at its end.
 use Rattle.std.specs.Prelude.{ℕ, List}
 use Rattle.gpu_capture.specs.declared.event.Event.{Event}
 use Rattle.event_play.specs.Replay.{Tale, Script}
@@ -6,7 +6,7 @@ use Rattle.event_play.specs.RigState.{RigState}
 use Rattle.event_play.specs.Streams.{Streams}
 use Rattle.event_play.specs.declared.ending.Mode.{Mode}
 
--- a capture that is played in a mode: what bytes give to play, and the bytes that were taken
+-- a capture that is played in a mode: what its bytes give to play, and the bytes read
 pub record Course : Type 0 where
   pub mode : Mode
   pub script : List ℕ → Script
@@ -15,7 +15,7 @@ pub record Course : Type 0 where
 abbrev pub course : Mode → (List ℕ → Script) → (taken : List ℕ) → Course
 course mode script taken = record { mode = mode; script = script; taken = taken }
 
--- the tale up to the ending, and the last one, for which the rig stands
+-- the replay up to the ending, and the last replay, with which the rig agrees
 pub record Tales : Type 0 where
   pub tale : Tale
   pub last : Tale
@@ -23,7 +23,7 @@ pub record Tales : Type 0 where
 abbrev pub tales : (tale last : Tale) → Tales
 tales tale last = record { tale = tale; last = last }
 
--- bytes that are due behind the lines of a tale
+-- output that follows the lines of the replay `start`
 pub record Due : Type 0 where
   pub start : Tale
   pub bytes : List ℕ
@@ -31,7 +31,7 @@ pub record Due : Type 0 where
 abbrev pub behind_tale : (start : Tale) → (bytes : List ℕ) → Due
 behind_tale start bytes = record { start = start; bytes = bytes }
 
--- an event among those that were read: the events before it, and those behind it
+-- an event among those that were read, with the events before and after it
 pub record Among : Type 0 where
   pub before : List Event
   pub event : Event
@@ -40,7 +40,7 @@ pub record Among : Type 0 where
 abbrev pub among : (before : List Event) → Event → (behind : List Event) → Among
 among before event behind = record { before = before; event = event; behind = behind }
 
--- what a capture was played with, at its end
+-- the source, the sink, the taps, the store steps and the rig, at the end
 pub record AtEnd : Type 0 where
   pub streams : Streams
   pub rig : RigState

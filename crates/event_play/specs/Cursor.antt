@@ -1,4 +1,4 @@
--- The words that are left of those that a work feeds.
+-- The remaining words of those that an operation feeds.
 use Rattle.std.specs.Prelude.{◌≡◌, ◌<◌, ◌+◌, ◌-◌, ◌++◌, ℕ, zero, suc, List, [], ◌∷◌, flat_map}
 use Rattle.ot_clear_dma.specs.Ram.{word_at}
 use Rattle.list_dma.specs.Node.{node_words}
@@ -10,7 +10,7 @@ use Rattle.event_play.specs.declared.words.Behind.TheVariants.{Nothing, Word, No
 use Rattle.event_play.specs.declared.words.Node.{Node}
 use Rattle.event_play.specs.declared.words.NodeList.{NodeList}
 
--- so many words of a block, from a place on
+-- `count` words of a block, from index `at` on
 abbrev pub words_from : List ℕ → Block → (at count : ℕ) → List ℕ
 words_from ram block at zero = []
 words_from ram block at (suc count) = word_at ram (address_in block at) ∷ words_from ram block (at + 1) count
@@ -19,13 +19,13 @@ words_from ram block at (suc count) = word_at ram (address_in block at) ∷ word
 abbrev pub nodes_words : List ℕ → NodeList → List ℕ
 nodes_words ram list = flat_map (node_words ram) (chain ram list.start list.limit)
 
--- the words that come behind a block
+-- the words that follow a block
 abbrev pub behind_words : List ℕ → Behind → List ℕ
 behind_words ram Nothing = []
 behind_words ram (Word word) = word ∷ []
 behind_words ram (Nodes list) = nodes_words ram list
 
--- the words of a block from a place on, and what comes behind it
+-- the words of a block from index `at` on, and those that follow the block
 abbrev pub words_left : List ℕ → Block → (at : ℕ) → Behind → List ℕ
 words_left ram block at behind = words_from ram block at (block.n - at) ++ behind_words ram behind
 

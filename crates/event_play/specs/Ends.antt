@@ -1,4 +1,4 @@
--- One event that is played, and what is due behind the last one.
+-- One event that is played, and the output after the last one.
 use Rattle.std.specs.Prelude.{◌≡◌, ◌≤◌, ◌⊎◌, Bool, ℕ, ◌+◌, List, Option, Result, Err, OnOk, IfErr, option_to_list}
 use Rattle.std.specs.Prelude.{true, false}
 use Rattle.gathered_out.specs.Pieces.{piece}
@@ -26,7 +26,7 @@ use Rattle.event_play.specs.declared.ending.Ending.TheVariants.{Done, Stopped, F
 use Rattle.event_play.specs.declared.ending.Mode.{Mode}
 use Rattle.event_play.specs.declared.fault.EventFault.{EventFault}
 
--- an event that comes behind a tale
+-- an event that follows a replay
 pub record Coming : Type 0 where
   pub tale : Tale
   pub event : Event
@@ -38,7 +38,7 @@ coming t event = record { tale = t; event = event }
 abbrev pub number_in : Coming → ℕ
 number_in comes = next_number comes.tale.played
 
--- its lines, by what it leads to, and what they cost
+-- its lines, from the step that it makes; below, their store steps
 abbrev pub event_lines : Mode → Coming → Stepped → List ℕ
 event_lines mode comes after = lines_for mode (option_to_list after.shown)
     (frames_behind comes.event (number_in comes) after.machine.gpu.parts) after.notes
@@ -49,11 +49,12 @@ event_lines_cost mode comes machine =
     lines_cost mode (frames_behind comes.event (number_in comes) machine.gpu.parts)
     (event_strokes comes.tale.state (number_in comes) comes.event)
 
--- what it was played with, by so many steps
+-- the same with `at` store steps
 abbrev pub by_steps : (at : ℕ) → Setting → Setting
 by_steps at now = setting (record now.out { steps = at }) now.rig
 
--- an event was played, and what is due for it was put and told: by so many steps, and those of writing it
+-- The event was played, its output added or written, and its notes sent to the taps. `at`: the store steps before the
+-- output was written.
 pub record PlaysEvent (mode : Mode) (comes : Coming) (before : Outlets) (now : Setting) : Type 0 where
   pub shown : Option ℕ
   pub at : ℕ
@@ -64,8 +65,8 @@ pub record PlaysEvent (mode : Mode) (comes : Coming) (before : Outlets) (now : S
   pub free : MayGather mode now.out.gathered
   pub spent : now.out.steps ≤ at + event_lines_cost mode comes step.machine
 
--- an event was played, but the line of the word that it shows, or the picture behind it or its sum, could not be
--- written whole
+-- The event was played. The line of its shown word, its picture, or the line of the picture's digest was not written
+-- completely.
 pub record ShowsPart (mode : Mode) (comes : Coming) (before : Outlets) (now : Setting) : Type 0 where
   pub mode_is : WritesBehind mode
   pub shown : Option ℕ
@@ -75,8 +76,8 @@ pub record ShowsPart (mode : Mode) (comes : Coming) (before : Outlets) (now : Se
   pub held : AppendsPart before.held now.out.held (event_lines mode comes (showing step.machine shown step.notes))
   pub spent : now.out.steps ≤ at + event_lines_cost mode comes step.machine
 
--- the words of an event were fed up to one whose line could not be put; the event does not count, and all else of the
--- rig is as it was
+-- The words of the event were fed up to one whose line could not be written. The event does not count, and the rest of
+-- the rig is unchanged.
 pub record FeedsPart (mode : Mode) (comes : Coming) (before : Outlets) (now : Setting) (lacking : ℕ) : Type 0 where
   pub gathers : IsGathered mode
   pub breaks : BreaksPut (due_lines (in_event (number_in comes) mode) comes.tale.state.gpu
@@ -87,13 +88,13 @@ pub record FeedsPart (mode : Mode) (comes : Coming) (before : Outlets) (now : Se
   pub running : comes.tale.state.running ≡ now.rig.running
   pub played : comes.tale.played ≡ now.rig.played
 
--- an event has a fault and changed nothing
+-- The event has a fault and changed nothing.
 pub record FaultsEvent (comes : Coming) (fault : EventFault) (before now : Setting) : Type 0 where
   pub is : event_step comes.tale.state (number_in comes) comes.event ≡ Err fault
   pub stands : now.rig ≡ before.rig
   pub unchanged : now.out ≡ before.out
 
--- how an event ended playing: at its number, but for lines that are gathered
+-- How an event ends playing. The ending has the event's number, except for a failed write of buffered lines.
 abbrev pub EndsEvent : Mode → Coming → (before now : Setting) → Ending → Type 0
 EndsEvent mode comes before now (Faulted number fault) =
     (number ≡ number_in comes) × FaultsEvent comes fault before now
@@ -101,7 +102,7 @@ EndsEvent mode comes before now (WriteFailed number) =
     FeedsPart mode comes before.out now number ⊎ ((number ≡ number_in comes) × ShowsPart mode comes before.out now)
 EndsEvent mode comes before now ending = ⊥
 
--- what a call does that plays an event, for every tale for which the rig stands: Ok where playing goes on
+-- What a call that plays an event does, for every replay with which the rig agrees. Ok: playing continues.
 pub record PlaysOrEnds {Value : Type 0} (mode : Mode) (event : Event) (before now : Setting)
     (result : Result Value Ending) : Type 0 where
   pub ok : (t : Tale) → StandsFor before.rig t → MayGather mode before.out.gathered
@@ -118,7 +119,7 @@ abbrev pub IsNotEnd : Stop → Type 0
 IsNotEnd End = ⊥
 IsNotEnd stop = Unit {0}
 
--- what tells what is due behind the last event: the mode, the drawing processor, and the number of the next event
+-- what decides the final output: the mode, the GPU state, and the number of the next event
 pub record Finale : Type 0 where
   pub mode : Mode
   pub state : State
@@ -127,26 +128,26 @@ pub record Finale : Type 0 where
 abbrev pub finale : Mode → State → (number : ℕ) → Finale
 finale mode s number = record { mode = mode; state = s; number = number }
 
--- whether it lacks a picture; its bytes; and what they cost
+-- whether it lacks a picture; below, its bytes
 abbrev pub LacksPicture : Finale → (lacks : Bool) → Type 0
 LacksPicture due lacks = lacks_picture due.mode due.state.parts.regs ≡ lacks
 
 abbrev pub finale_bytes : Finale → List Reading → List ℕ
 finale_bytes due heard = final_bytes due.mode heard due.number due.state
 
--- it was written
+-- the final output was written
 pub record WritesEnd (due : Finale) (before now : Outlets) : Type 0 where
   pub shows : LacksPicture due false
   pub held : now.held ≡ appended before.held (finale_bytes due before.heard)
   pub cost : now.steps ≤ before.steps + final_cost due.mode due.state
 
--- a part of it was
+-- a proper prefix of the final output was written
 pub record WritesEndPart (due : Finale) (before now : Outlets) : Type 0 where
   pub shows : LacksPicture due false
   pub held : AppendsPart before.held now.held (finale_bytes due before.heard)
   pub cost : now.steps ≤ before.steps + final_cost due.mode due.state
 
--- how a stop of the reader ends playing, at the number of the next event
+-- how a stop of the reader ends playing if the buffer is empty, with the number of the next event
 abbrev pub EndsAt : Finale → Stop → (before now : Outlets) → Ending → Type 0
 EndsAt due stop before now Done = (stop ≡ End) × WritesEnd due before now
 EndsAt due stop before now (WriteFailed at) = (stop ≡ End) × (at ≡ due.number) × WritesEndPart due before now
@@ -155,7 +156,7 @@ EndsAt due stop before now (NoPicture at) =
 EndsAt due stop before now (Stopped at told) = (at ≡ due.number) × (told ≡ stop) × IsNotEnd stop × (now ≡ before)
 EndsAt due stop before now (Faulted at fault) = ⊥
 
--- the same, behind what is gathered
+-- the same after a flush of the buffer; or the flush failed
 abbrev pub EndsReading : Finale → Stop → (before now : Outlets) → Ending → Type 0
 EndsReading due stop before now ending =
     ((mid : Outlets) × IsWritten before.held mid.held before.gathered × (mid.heard ≡ before.heard)

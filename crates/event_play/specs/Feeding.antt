@@ -1,4 +1,4 @@
--- Words that are fed while their lines are put.
+-- Words that are fed while their lines are added.
 use Rattle.std.specs.Prelude.{◌≡◌, ◌≤◌, ◌⊎◌, ℕ, ◌+◌, List, [], ◌∷◌, ◌++◌, Result, OnOk, OnErr}
 use Rattle.dev_io.specs.Device.{Rose}
 use Rattle.gpu_core.specs.Kept.{Kept, kept_of}
@@ -13,18 +13,18 @@ use Rattle.event_play.specs.Told.{told_notes}
 use Rattle.event_play.specs.declared.ending.Mode.{Mode}
 use Rattle.event_play.specs.declared.ending.Within.{Within}
 
--- the lines of words that are fed in the event of this number, and what they cost with feeding them
+-- the lines of words fed in event `number`; below, the store steps of feeding them and of their lines
 abbrev pub fed_lines : Mode → State → (number : ℕ) → List ℕ → List ℕ
 fed_lines mode s number words = lines_while mode (fed_notes s number words) (fed_strokes s number words)
 
 abbrev pub fed_lines_cost : Mode → State → (number : ℕ) → List ℕ → ℕ
 fed_lines_cost mode s number words = fed_cost s words + lines_cost mode [] (fed_strokes s number words)
 
--- the event of this number, and what is written of it
+-- event `number`, and the mode of output
 abbrev pub in_event : (number : ℕ) → Mode → Within
 in_event number mode = record { number = number; mode = mode }
 
--- what words reach that are fed: the outlets, and what the drawing processor keeps
+-- what feeding words changes: the sink, the taps and the store steps, and the essential state of the GPU
 pub record Drawing : Type 0 where
   pub out : Outlets
   pub gpu : Kept
@@ -32,13 +32,13 @@ pub record Drawing : Type 0 where
 abbrev pub drawing : Outlets → Kept → Drawing
 drawing out gpu = record { out = out; gpu = gpu }
 
--- these words were fed in this event, to a drawing processor in this state
+-- These words were fed in this event, from the GPU state `s`.
 pub record Feeds (within : Within) (s : State) (words : List ℕ) (before : Outlets) (now : Drawing) : Type 0 where
   pub stands : kept_of (fed s words) ≡ now.gpu
   pub heard : now.out.heard ≡ told_notes (fed_notes s within.number words) before.heard
   pub cost : now.out.steps ≤ before.steps + fed_lines_cost within.mode s within.number words
 
--- of these words the first were fed, up to one whose line could not be put
+-- The first of these words were fed, up to one whose line could not be written.
 pub record StopsFeeding (within : Within) (s : State) (words : List ℕ) (was : Outlets) (now : Drawing) : Type 0 where
   pub before : List ℕ
   pub word : ℕ
@@ -48,13 +48,12 @@ pub record StopsFeeding (within : Within) (s : State) (words : List ℕ) (was : 
   pub heard : now.out.heard ≡ told_notes (fed_notes s within.number (before ++ word ∷ [])) was.heard
   pub cost : now.out.steps ≤ was.steps + fed_lines_cost within.mode s within.number (before ++ word ∷ [])
 
--- the lines that are due for words in this event
+-- the lines of these words, as output of this event
 abbrev pub due_lines : Within → State → List ℕ → Piece
 due_lines within s words = piece within.number (fed_lines within.mode s within.number words)
 
--- What a call does that feeds words, for every state of which the drawing processor keeps what it does: Ok where all
--- were fed and every line that is due for them was put, and else a line could not be put. There are lines in modes
--- alone whose lines are gathered.
+-- What a call that feeds words does, for every GPU state with the essential state before it. Ok: all words were fed and
+-- all their lines added. Err: a line could not be written. Words have lines only in modes that buffer lines.
 pub record FeedsWords {Value : Type 0} (within : Within) (words : List ℕ) (before now : Drawing)
     (result : Result Value ℕ) : Type 0 where
   pub ok : (s : State) → kept_of s ≡ before.gpu → OnOk result (Feeds within s words before.out now)

@@ -1,4 +1,4 @@
--- The pictures that are shown one after another, and their sums (our own rule).
+-- The pictures of a film and their digests (our own rule).
 use Rattle.std.specs.Prelude.{ℕ, ◌+◌, ◌==◌, Bool, List, [], ◌∷◌, Option, None, Some, if◌then◌else◌}
 use Rattle.gp1_status.specs.Registers.{opcode_of}
 use Rattle.gp1_status.specs.Shape.{shape_of}
@@ -12,14 +12,13 @@ use Rattle.sha2.specs.Sha256.{sha256}
 use Rattle.event_play.specs.declared.ending.Moment.{Moment}
 use Rattle.event_play.specs.declared.ending.Moment.TheVariants.{Flip, Mark}
 
--- the moments at which pictures are due: a flip is a word of GP1 that writes where the display area starts, and a mark
--- one of opcode 3Fh, which has no effect
+-- whether a word of GP1 triggers a picture: a flip is opcode 05h, the start of the display area; a mark is opcode 3Fh,
+-- which has no effect
 abbrev pub is_moment : Moment → (word : ℕ) → Bool
 is_moment Flip word = opcode_of word == 5
 is_moment Mark word = opcode_of word == 0x3f
 
--- what there is to see behind a word of GP1: the number of its event, and the drawing processor's parts, as they are
--- then
+-- what can be seen after a word of GP1: that word, the number of its event, and the parts of the GPU after it
 pub record Frame : Type 0 where
   pub word : ℕ
   pub number : ℕ
@@ -29,13 +28,13 @@ abbrev pub frames_behind : Event → (number : ℕ) → Parts → List Frame
 frames_behind (event.Gp1 word) number parts = record { word = word; number = number; parts = parts } ∷ []
 frames_behind other number parts = []
 
--- ---- what is written of one
+-- ---- the output for one frame
 
--- its picture; nothing where the registers show none
+-- its picture; empty if the registers show none
 unfoldable pub frame_bytes : Parts → List ℕ
 frame_bytes parts = picture parts.m parts.regs
 
--- the line of the picture's digest, by the picture's width and height
+-- the line of the picture's digest, with its width and height; empty if no picture is shown
 abbrev pub sum_by_shape : (number : ℕ) → Option (ℕ × ℕ) → (bytes : List ℕ) → List ℕ
 sum_by_shape number None bytes = []
 sum_by_shape number (Some shape) bytes = frame_sum_line number shape (sha256 bytes)
@@ -47,7 +46,7 @@ frame_sum number parts = sum_by_shape number (shape_of parts.regs) (frame_bytes 
 unfoldable pub frame_cost : Parts → ℕ
 frame_cost parts = picture_cost parts.regs
 
--- ---- those at the moments that are asked for
+-- ---- the frames at the selected events
 
 abbrev pub picture_at : Moment → Frame → List ℕ
 picture_at at frame = if is_moment at frame.word then frame_bytes frame.parts else []
@@ -62,9 +61,9 @@ abbrev pub frames_cost : Moment → List Frame → ℕ
 frames_cost at [] = 0
 frames_cost at (frame ∷ frames) = cost_at at frame + frames_cost at frames
 
--- ---- behind the last event
+-- ---- after the last event
 
--- a picture is due there too, as at a flip; of those at marks there is none
+-- For flips, there is a picture after the last event too. For marks, there is none.
 abbrev pub bytes_at_end : Moment → (bytes : List ℕ) → List ℕ
 bytes_at_end Flip bytes = bytes
 bytes_at_end Mark bytes = []

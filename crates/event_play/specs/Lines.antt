@@ -1,4 +1,4 @@
--- What is written as the events come, by the mode (our own rule).
+-- The output written during a replay, by the mode (our own rule).
 use Rattle.std.specs.Prelude.{◌≡◌, ◌⊎◌, ℕ, List, [], flat_map}
 use Rattle.gathered_out.specs.Pieces.{Piece}
 use Rattle.gp0_packets.specs.declared.note.Note.{Note}
@@ -9,8 +9,8 @@ use Rattle.event_play.specs.declared.ending.Mode.{Mode}
 use Rattle.event_play.specs.declared.ending.Mode.TheVariants.{Vram, Shot, Report, Frames, Sums, Pixel}
 use Rattle.event_play.specs.declared.ending.Mode.TheVariants.{List as Listing, Play as Words}
 
--- the line of each shown word, or the picture of each frame at the moments asked for or the line of its sum, or the
--- line of each note but those of pixels, or the line of each change of a cell
+-- the lines of shown words; the pictures of the selected frames, or the lines of their digests; the lines of notes,
+-- except for pixels of a load; or the lines of changes of a cell
 abbrev pub lines_for : Mode → (shown : List ℕ) → (frames : List Frame) → (notes : List Note)
     → (strokes : List Stroke) → List ℕ
 lines_for Words shown frames notes strokes = flat_map word_line shown
@@ -22,15 +22,15 @@ lines_for Vram shown frames notes strokes = []
 lines_for Shot shown frames notes strokes = []
 lines_for Report shown frames notes strokes = []
 
--- those that are written while words are fed
+-- the lines that are added while words are fed
 abbrev pub lines_while : Mode → (notes : List Note) → (strokes : List Stroke) → List ℕ
 lines_while mode notes strokes = lines_for mode [] [] notes strokes
 
--- and those behind an event
+-- the output that is written after an event
 abbrev pub lines_behind : Mode → (shown : List ℕ) → (frames : List Frame) → List ℕ
 lines_behind mode shown frames = lines_for mode shown frames [] []
 
--- the most store steps of writing them: pictures take some, and looking at a cell
+-- the most store steps of this output: those of pictures, and of looking at a cell
 abbrev pub lines_cost : Mode → (frames : List Frame) → (strokes : List Stroke) → ℕ
 lines_cost (Frames at) frames strokes = frames_cost at frames
 lines_cost (Sums at) frames strokes = frames_cost at frames
@@ -41,19 +41,19 @@ lines_cost Vram frames strokes = 0
 lines_cost Shot frames strokes = 0
 lines_cost Report frames strokes = 0
 
--- a word, a picture or the line of its sum is written behind its event
+-- the modes with output after an event: a shown word, a picture or the line of its digest
 abbrev pub WritesBehind : Mode → Type 0
 WritesBehind Words = Unit {0}
 WritesBehind (Frames at) = Unit {0}
 WritesBehind (Sums at) = Unit {0}
 WritesBehind mode = ⊥
 
--- the lines of items are gathered
+-- the modes whose lines are buffered
 abbrev pub IsGathered : Mode → Type 0
 IsGathered Listing = Unit {0}
 IsGathered (Pixel cell) = Unit {0}
 IsGathered mode = ⊥
 
--- in no other mode anything is
+-- In every other mode the buffer is empty.
 abbrev pub MayGather : Mode → List Piece → Type 0
 MayGather mode gathered = IsGathered mode ⊎ (gathered ≡ [])

@@ -1,4 +1,4 @@
--- What is written of a replay, and how playing ends, by the mode (our own rule).
+-- The output of a replay, and how playing ends, by the mode (our own rule).
 use Rattle.std.specs.Prelude.{ℕ, ◌+◌, List, [], ◌++◌, flat_map, Bool, true, false, is_none}
 use Rattle.gp1_status.specs.Registers.{Registers}
 use Rattle.gp1_status.specs.Shape.{shape_of}
@@ -18,11 +18,11 @@ use Rattle.event_play.specs.declared.ending.Mode.{Mode}
 use Rattle.event_play.specs.declared.ending.Mode.TheVariants.{Vram, Shot, Report, Frames, Sums, Pixel}
 use Rattle.event_play.specs.declared.ending.Mode.TheVariants.{List as Listing, Play as Words}
 
--- what is due as the events come
+-- the output written during the replay
 abbrev pub lines_of : Mode → Tale → List ℕ
 lines_of mode t = lines_for mode t.shown t.frames t.notes t.strokes
 
--- the most store steps of playing and of writing it, and the same by the boxes
+-- the most store steps of playing and of this output, also by the boxes
 abbrev pub tale_cost : Mode → Tale → ℕ
 tale_cost mode t = t.cost + lines_cost mode t.frames t.strokes
 
@@ -31,7 +31,7 @@ tale_box_cost mode t = t.box_cost + lines_cost mode t.frames t.strokes
 
 -- ---- the end
 
--- a picture is asked for, and the registers show none: its width or its height is 0
+-- The mode asks for a picture and the registers show none: its width or height is 0.
 abbrev pub lacks_picture : Mode → Registers → Bool
 lacks_picture Shot r = is_none (shape_of r)
 lacks_picture mode r = false
@@ -40,14 +40,14 @@ abbrev pub unless_lacking : Bool → (number : ℕ) → Ending → Ending
 unless_lacking true number Done = NoPicture number
 unless_lacking lacks number ending = ending
 
--- How playing ends under a mode: as the replay does, but a whole replay that has no picture to show ends with that, at
--- the number behind its last event.
+-- How playing ends in a mode: as the replay does. But a whole replay without the picture that the mode asks for ends
+-- with `NoPicture` at the number of the next event.
 abbrev pub ending_under : Mode → Played → Ending
 ending_under mode r =
     unless_lacking (lacks_picture mode r.tale.state.gpu.parts.regs) (next_number r.tale.played) r.ending
 
--- what is due after the end, at the number behind the last event: the status line, all cells of video memory, the
--- picture, if one is shown, the line of its sum and that of video memory, or the line of each tap
+-- the final output: the status line; all cells of video memory; the picture if one is shown; the line of its digest and
+-- that of video memory; or the line of each tap. `number`: the number of the next event
 unfoldable pub final_bytes : Mode → (heard : List Reading) → (number : ℕ) → State → List ℕ
 final_bytes Words heard number s = status_line (status_word s)
 final_bytes Listing heard number s = []
@@ -68,7 +68,7 @@ final_cost (Frames at) s = cost_at_end at (frame_cost s.parts)
 final_cost (Sums at) s = cost_at_end at (frame_cost s.parts) + dump_cost s.parts.m
 final_cost Report s = 0
 
--- both only where playing ends with Done
+-- the final output and its store steps, only if playing ends with `Done`
 abbrev pub finals_at : Ending → Mode → (heard : List Reading) → (number : ℕ) → State → List ℕ
 finals_at Done mode heard number s = final_bytes mode heard number s
 finals_at ending mode heard number s = []
@@ -77,7 +77,7 @@ abbrev pub finals_cost_at : Ending → Mode → State → ℕ
 finals_cost_at Done mode s = final_cost mode s
 finals_cost_at ending mode s = 0
 
--- by what the taps say at the end, of which this is what they said when they were handed in
+-- the final output and its store steps; `heard`: what the taps recorded before the replay
 abbrev pub finals : Mode → (heard : List Reading) → Played → List ℕ
 finals mode heard r =
     finals_at (ending_under mode r) mode (told_notes r.tale.notes heard) (next_number r.tale.played) r.tale.state.gpu
@@ -87,11 +87,11 @@ finals_cost mode r = finals_cost_at (ending_under mode r) mode r.tale.state.gpu
 
 -- ---- all of it
 
--- all that is written
+-- all output
 abbrev pub out_bytes : Mode → (heard : List Reading) → Played → List ℕ
 out_bytes mode heard r = lines_of mode r.tale ++ finals mode heard r
 
--- the most store steps of playing and writing, and the same by the boxes
+-- the most store steps of playing and of all output, also by the boxes
 abbrev pub out_cost : Mode → Played → ℕ
 out_cost mode r = tale_cost mode r.tale + finals_cost mode r
 

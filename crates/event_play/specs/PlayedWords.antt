@@ -1,4 +1,4 @@
--- Words that are written to GP0, an event each.
+-- Words written to GP0, one event per word.
 use Rattle.std.specs.Prelude.{◌≡◌, ◌≤◌, ℕ, ◌+◌, ◌-◌, ◌^◌, min, List, [], ◌∷◌, ◌++◌, fold, option_to_list}
 use Rattle.gp0_packets.specs.declared.note.Note.{Note}
 use Rattle.gpu_core.specs.Cost.{gp0_cost, gp0_box_cost}
@@ -11,7 +11,7 @@ use Rattle.event_play.specs.Told.{told_notes}
 use Rattle.event_play.specs.declared.ending.Mode.{Mode}
 use Rattle.event_play.specs.declared.ending.Mode.TheVariants.{Pixel}
 
--- the tale with one such event more
+-- the replay with one more such event
 abbrev pub after_word : Tale → (word : ℕ) → Tale
 after_word t word = record {
   state = record t.state { gpu = after_gp0 t.state.gpu word };
@@ -27,24 +27,25 @@ after_word t word = record {
 abbrev pub after_words : Tale → (words : List ℕ) → Tale
 after_words t words = fold after_word t words
 
--- their notes
+-- the notes of these words
 abbrev pub word_notes : Tale → (words : List ℕ) → List Note
 word_notes t [] = []
 word_notes t (word ∷ words) =
     option_to_list (gp0_note t.state.gpu (next_number t.played) word) ++ word_notes (after_word t word) words
 
--- the number of events played behind so many more; it stays at 2^64 - 1 once there
+-- the number of events played after `count` more, at most 2^64 - 1
 abbrev pub number_behind : (played count : ℕ) → ℕ
 number_behind played count = min (played + count) (2 ^ 64 - 1)
 
--- a drawing processor, the number of events played, the taps and the steps are those of a tale that began at `first`
+-- The GPU, the number of events played, the taps and the store steps are those of replay `t`. `first`: the taps and the
+-- store steps before it.
 pub record IsTold (t : Tale) (first now : Outlets) (gpu : Kept) (played : ℕ) : Type 0 where
   pub state : kept_of t.state.gpu ≡ gpu
   pub number : t.played ≡ played
   pub heard : now.heard ≡ told_notes t.notes first.heard
   pub cost : now.steps ≤ first.steps + t.cost
 
--- none of these words is played on its own, since the mode looks at no cell
+-- If the mode watches a cell, there is none of these words, since each word is then played on its own.
 abbrev pub AreUnwatched : Mode → (words : List ℕ) → Type 0
 AreUnwatched (Pixel cell) words = words ≡ []
 AreUnwatched mode words = Unit {0}

@@ -1,6 +1,5 @@
--- A capture that is played as its bytes come. Below, `script` says what bytes give to play, from a tale and by what a
--- reader makes of them from its place on: a whole capture by `script_of t`, what a reader still has to take by
--- `script_behind t progress`.
+-- A capture that is played while it is read. Below, `script` maps bytes to what they give to play: `script_of t` for a
+-- whole capture, `script_behind t progress` for what a reader has still to read.
 use Rattle.std.specs.Prelude.{◌≡◌, ◌≤◌, ◌⊎◌, ℕ, List, [], ◌∷◌, ◌++◌, ◌+◌, Ok}
 use Rattle.dev_io.specs.Device.{prepended, appended, AppendsPart, IsAtEnd}
 use Rattle.gpu_capture.specs.Reading.{Reading as HowRead, AreFewBehind, AreNeeded, SaysFirst}
@@ -23,20 +22,20 @@ use Rattle.event_play.specs.declared.ending.Ending.TheVariants.{Done, Stopped, F
 use Rattle.event_play.specs.declared.ending.Mode.{Mode}
 use Rattle.event_play.specs.declared.ending.Mode.TheVariants.{Play as Words, Frames, Sums}
 
--- it ended for want of bytes
+-- the bytes ended too early
 abbrev pub IsShort : Ending → Type 0
 IsShort (Stopped number (Truncated byte)) = Unit {0}
 IsShort ending = ⊥
 
--- how bytes are played, by what they give to play
+-- how bytes are played
 abbrev pub plays : (List ℕ → Script) → List ℕ → Played
 plays script bytes = played_script (script bytes)
 
--- how they are read
+-- how bytes are read
 abbrev pub reads : (List ℕ → Script) → HowRead
 reads script bytes = (script bytes).captured
 
--- none of these bytes is one too many: a proper part of them, played alone, ends for want of bytes
+-- None of these bytes is unnecessary: a proper prefix of them, played alone, is truncated.
 abbrev pub AreAllNeeded : (List ℕ → Played) → List ℕ → Type 0
 AreAllNeeded by_bytes taken =
     (part more : List ℕ) → taken ≡ part ++ more → (more ≡ [] → ⊥) → IsShort (by_bytes part).ending
@@ -49,22 +48,24 @@ whole t rest = record { tale = t; ending = Done; rest = rest }
 abbrev pub stops : Tale → (number : ℕ) → Stop → (rest : List ℕ) → Played
 stops t number stop rest = record { tale = t; ending = Stopped number stop; rest = rest }
 
--- ---- what could not be written
+-- ---- output that could not be written
 
--- what was due at an event: the line of the word that it shows, or the picture behind it or its sum
+-- The mode has output after `event`: a shown word, a picture or its digest. That output follows the replay `start`, the
+-- one before the event; `last` is the replay with the event.
 abbrev pub DueIn : Mode → Tale → Tale → Tale → Event → Type 0
 DueIn Words t start last event = (start ≡ t) × (after_event t event ≡ Ok last)
 DueIn (Frames at) t start last event = (start ≡ t) × (after_event t event ≡ Ok last)
 DueIn (Sums at) t start last event = (start ≡ t) × (after_event t event ≡ Ok last)
 DueIn mode t start last event = ⊥
 
--- events lead from a tale to a tale, whatever events follow
+-- The events lead from replay `first` to replay `t`, whatever events follow.
 pub record Follows (first : Tale) (events : List Event) (t : Tale) : Type 0 where
   pub replays : (more : List Event) (stop : Stop) (rest : List ℕ)
       → played_events first (events ++ more) stop rest ≡ played_events t more stop rest
 
--- How far a capture was read: the bytes taken say these events and then this one, whatever bytes follow, and none of
--- them is one too many for it. Those before it lead to the tale, from the one from which the capture is played.
+-- How far a capture was read: the bytes read say the events `before` and then `event`, whatever bytes follow, and none
+-- of them is unnecessary for `event`. The events `before` lead to the replay `t`, from the one that the capture starts
+-- with.
 pub record IsReadTo (script : List ℕ → Script) (t : Tale) (taken : List ℕ) (before : List Event) (event : Event)
     : Type 0 where
   pub first : Tale
@@ -74,7 +75,7 @@ pub record IsReadTo (script : List ℕ → Script) (t : Tale) (taken : List ℕ)
   pub needed : AreNeeded (reads script) (before ++ event ∷ []) taken
   pub follows : Follows first before t
 
--- the last event read is this one, and these lines are due at it: those that the last tale has more
+-- `due` is the output after the last event read: the lines that the last replay has more than the one before it.
 pub record DueAtEvent (on : Course) (told : Tales) (due : Due) : Type 0 where
   pub before : List Event
   pub event : Event
@@ -82,14 +83,14 @@ pub record DueAtEvent (on : Course) (told : Tales) (due : Due) : Type 0 where
   pub inside : DueIn on.mode told.tale due.start told.last event
   pub lines : lines_of on.mode told.last ≡ lines_of on.mode due.start ++ due.bytes
 
--- where playing stands behind a tale: there, or behind the first words of one event more, or none of its words
+-- `last` is the replay `t`, or `t` with the first words of one more event fed, perhaps none of them.
 abbrev pub IsUpTo : Tale → List Event → Tale → Type 0
 IsUpTo t [] last = last ≡ t
 IsUpTo t (event ∷ []) last = (words : List ℕ) × (more : List ℕ)
     × (event_words t.state event ≡ words ++ more) × (last ≡ part_fed t words)
 IsUpTo t events last = ⊥
 
--- these events lead from a tale to the last one, but perhaps for the last event
+-- These events lead from `first` to `last`, except that of the last event only the first words may have been fed.
 pub record LeadsTo (first : Tale) (events : List Event) (last : Tale) : Type 0 where
   pub played : List Event
   pub unplayed : List Event
@@ -98,9 +99,9 @@ pub record LeadsTo (first : Tale) (events : List Event) (last : Tale) : Type 0 w
   pub follows : Follows first played tale
   pub up_to : IsUpTo tale unplayed last
 
--- How far a capture was read while lines were gathered: the bytes taken say these events, this one and those behind it,
--- whatever bytes follow. Those before it lead to the tale, and all of them to the last one. Few bytes were taken behind
--- those that this event needs.
+-- How far a capture was read while lines were buffered: the bytes read say the events before `read.event`, that event
+-- and those after it, whatever bytes follow. Those before it lead to `told.tale`, all of them to `told.last`. At most
+-- 4,112 bytes were read that this event does not need.
 pub record IsReadPast (script : List ℕ → Script) (told : Tales) (taken : List ℕ) (read : Among) : Type 0 where
   pub first : Tale
   pub version : ℕ
@@ -110,7 +111,7 @@ pub record IsReadPast (script : List ℕ → Script) (told : Tales) (taken : Lis
   pub leads : LeadsTo first (read.before ++ read.event ∷ read.behind) told.last
   pub few : AreFewBehind (reads script) (read.before ++ read.event ∷ []) taken most_behind
 
--- the lines of the items of this event are due, all of them, which were gathered with those of others
+-- `due` is all lines of the items of one event, which were buffered with those of others.
 pub record DueWhileGathered (on : Course) (told : Tales) (due : Due) : Type 0 where
   pub gathers : IsGathered on.mode
   pub before : List Event
@@ -122,7 +123,7 @@ pub record DueWhileGathered (on : Course) (told : Tales) (due : Due) : Type 0 wh
   pub start_is : due.start ≡ told.tale
   pub lines : lines_of on.mode next ≡ lines_of on.mode due.start ++ due.bytes
 
--- every event was played, and these bytes are due behind the last one: all that is written after the end
+-- Every event was played, and `due` is the final output.
 pub record DueAtEnd (heard : List Reading) (on : Course) (told : Tales) (due : Due) : Type 0 where
   pub comes : (rest : List ℕ) → plays on.script (on.taken ++ rest) ≡ whole told.tale rest
   pub ends : ending_under on.mode (whole told.tale []) ≡ Done
@@ -131,8 +132,8 @@ pub record DueAtEnd (heard : List Reading) (on : Course) (told : Tales) (due : D
   pub bytes : due.bytes
       ≡ final_bytes on.mode (told_notes told.tale.notes heard) (next_number told.tale.played) told.tale.state.gpu
 
--- What has been written begins all that there is to write. Of what is due at this number, and was to be written next,
--- at least one byte is lacking: all that was due before stands, and nothing that is due later.
+-- What was written is a prefix of the whole output. Of the output `due` at `number`, at least one byte is missing. All
+-- earlier output was written, and no later output.
 pub record LacksBytes (on : Course) (told : Tales) (number : ℕ) (before now : Streams) : Type 0 where
   pub number_is : number ≡ next_number told.tale.played
   pub start : Tale
@@ -146,7 +147,7 @@ pub record LacksBytes (on : Course) (told : Tales) (number : ℕ) (before now : 
 
 -- ---- the endings
 
--- what playing the bytes taken says where it ends
+-- what the bytes read say about each ending, and what was written
 abbrev pub SaysEnding : Course → Tales → (before now : Streams) → Ending → Type 0
 SaysEnding on told before now Done =
     ((rest : List ℕ) → plays on.script (on.taken ++ rest) ≡ whole told.tale rest)
@@ -173,14 +174,14 @@ SaysEnding on told before now (Faulted number fault) =
     × (now.held ≡ appended before.held (lines_of on.mode told.tale))
 SaysEnding on told before now (WriteFailed number) = LacksBytes on told number before now
 
--- the rig stands for the last tale, which is the tale unless an output could not be written
+-- The rig agrees with the last replay. This is the replay up to the ending, unless a write failed.
 abbrev pub IsLast : Tale → Tale → Ending → Type 0
 IsLast t last (WriteFailed number) = Unit {0}
 IsLast t last ending = last ≡ t
 
--- How playing ends, by what bytes give to play: the bytes taken, none of them needless; the tale that they tell, up to
--- the ending; what was written of it; the rig and the taps, as they are after the last tale; and the most store steps,
--- by both counts.
+-- How playing ends. `taken`: the bytes read, none of them unnecessary. `tale`: their replay up to the ending. `last`:
+-- the replay with which the rig and the taps agree. `says`: the ending and what was written. The store steps are
+-- bounded by both counts.
 pub record EndsPlay (mode : Mode) (script : List ℕ → Script) (before : Streams) (now : AtEnd) (ending : Ending)
     : Type 0 where
   pub taken : List ℕ

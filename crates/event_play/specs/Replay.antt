@@ -16,8 +16,8 @@ use Rattle.event_play.specs.declared.ending.Ending.{Ending}
 use Rattle.event_play.specs.declared.ending.Ending.TheVariants.{Done, Stopped, Faulted}
 use Rattle.event_play.specs.declared.fault.EventFault.{EventFault}
 
--- what has been played: the state, the number of events, the shown words, the frames, the notes, the strokes, and the
--- most store steps of all this, also by the boxes
+-- the trace of a replay: the machine, the number of events played, the shown words, the frames, the notes and the
+-- changes. `cost`: the most store steps of all this; `box_cost`: the same by the boxes
 pub record Tale : Type 0 where
   pub state : Machine
   pub played : ℕ
@@ -28,7 +28,7 @@ pub record Tale : Type 0 where
   pub cost : ℕ
   pub box_cost : ℕ
 
--- nothing yet, from a state and a number of events played before
+-- the trace before any event, from a machine that has played `played` events
 abbrev pub from_state : Machine → ℕ → Tale
 from_state s played = record {
   state = s;
@@ -41,11 +41,11 @@ from_state s played = record {
   box_cost = 0;
 }
 
--- the number of the next event; numbers stay at 2^64 - 1 once there
+-- the number of the next event, at most 2^64 - 1
 abbrev pub next_number : ℕ → ℕ
 next_number played = min (played + 1) (2 ^ 64 - 1)
 
--- the tale with one event more
+-- the replay with one more event
 abbrev pub told_on : Tale → Event → (cost box_cost : ℕ) → Result Stepped EventFault → Result Tale EventFault
 told_on t event cost box_cost (Ok stepped) = Ok (record {
   state = stepped.machine;
@@ -64,7 +64,7 @@ after_event t event =
     told_on t event (event_cost t.state event) (event_box_cost t.state event)
     (event_step t.state (next_number t.played) event)
 
--- the tale with the first words of its next event fed, which does not count that event
+-- the replay with the first words of its next event fed; that event is not counted
 abbrev pub part_fed : Tale → List ℕ → Tale
 part_fed t words = record {
   state = record t.state { gpu = fed t.state.gpu words };
@@ -77,13 +77,13 @@ part_fed t words = record {
   box_cost = t.box_cost + fed_box_cost t.state.gpu words;
 }
 
--- how a list of events was played: the tale, how it ended, and the bytes behind a capture's end
+-- how a list of events was played: the replay, how it ended, and the bytes after the capture's end
 pub record Played : Type 0 where
   pub tale : Tale
   pub ending : Ending
   pub rest : List ℕ
 
--- an ending of the format, at the number of the next event
+-- the ending for a stop of the reader; `number`: the number of the next event
 abbrev pub ending_of : ℕ → Stop → Ending
 ending_of number End = Done
 ending_of number stop = Stopped number stop
@@ -92,7 +92,7 @@ abbrev pub go_on : Result Tale EventFault → (Tale → Played) → (EventFault 
 go_on (Ok next) on faulted = on next
 go_on (Err fault) on faulted = faulted fault
 
--- the events, up to the first fault
+-- the events are played up to the first fault
 abbrev pub played_events : Tale → List Event → Stop → List ℕ → Played
 played_events t [] stop rest = record { tale = t; ending = ending_of (next_number t.played) stop; rest = rest }
 played_events t (event ∷ events) stop rest = go_on (after_event t event)
@@ -104,7 +104,7 @@ replayed t captured = played_events t captured.events captured.ending captured.r
 
 -- ---- whole captures
 
--- what bytes give to play: the tale from which it goes on, and what a capture says
+-- what bytes give to play: the replay to start from, and what they say as a capture
 pub record Script : Type 0 where
   pub first : Tale
   pub captured : Captured
@@ -119,7 +119,7 @@ tall_version = 3
 abbrev pub tall_tale : Tale → Tale
 tall_tale t = record t { state = tall_machine t.state }
 
--- the tale from which a capture of this version is played
+-- the replay from which a capture of this version is played
 abbrev pub raised : Tale → (version : ℕ) → Tale
 raised t version = if version == tall_version then tall_tale t else t
 
@@ -129,14 +129,14 @@ script_from first captured = record { first = raised first captured.version; cap
 abbrev pub played_from : Tale → Captured → Played
 played_from first captured = played_script (script_from first captured)
 
--- a whole capture; it is whole where no event has a fault and it ends with End, which is the ending Done
+-- a whole capture, played from `first`; it ends with `Done` if no event has a fault and the reader stops with End
 abbrev pub script_of : Tale → List ℕ → Script
 script_of first bytes = script_from first (capture bytes)
 
 abbrev pub played_capture : Tale → List ℕ → Played
 played_capture first bytes = played_script (script_of first bytes)
 
--- the bytes that a reader has still to take, from its place on; with a new reader this is Play
+-- the bytes that a reader has still to read, from its offset on; for a new reader, a whole capture
 abbrev pub script_behind : Tale → Progress → List ℕ → Script
 script_behind first progress bytes = script_from first (capture_from progress bytes)
 

@@ -1,8 +1,8 @@
--- What an event is played with.
+-- What an event changes when it is played.
 use Rattle.event_play.specs.RigState.{RigState}
 use Rattle.event_play.specs.Streams.{Outlets}
 
--- the outlets, and the rig
+-- the sink with the taps and the store steps, and the rig
 pub record Setting : Type 0 where
   pub out : Outlets
   pub rig : RigState

@@ -1,4 +1,4 @@
--- Each picture of a film is what `shot` writes of the events up to its moment (our own rule).
+-- Each picture of a film is what `shot` writes for the events up to that picture (our own rule).
 use Rattle.std.specs.Prelude.{◌≡◌, ℕ, Bool, false, List, [], ◌∷◌, ◌++◌, if◌then◌else◌}
 use Rattle.gpu_capture.specs.declared.event.Event.{Event}
 use Rattle.gpu_capture.specs.declared.event.Event.TheVariants as event
@@ -12,24 +12,24 @@ use Rattle.event_play.specs.declared.ending.Mode.TheVariants.{Shot, Frames}
 use Rattle.event_play.specs.declared.ending.Moment.{Moment}
 use Rattle.event_play.specs.declared.ending.Moment.TheVariants.{Flip, Mark}
 
--- an event that is one of the moments asked for
+-- whether a picture is written after an event
 abbrev pub is_due : Moment → Event → Bool
 is_due at (event.Gp1 word) = is_moment at word
 is_due at other = false
 
--- what `shot` writes of events from a machine on, as if they were all of a capture; nothing where no picture is shown
+-- what `shot` writes for events from a machine on, as if they were a whole capture; empty if no picture is shown
 abbrev pub shot_of : Machine → (played : ℕ) → List Event → List ℕ
 shot_of s played events = out_bytes Shot [] (alone (from_state s played) events)
 
--- for each of the events behind others that is due, what `shot` writes of all events up to it
+-- for each event after `before` that has a picture, what `shot` writes for all events up to it
 abbrev pub film : Moment → Machine → (played : ℕ) → (before events : List Event) → List ℕ
 film at s played before [] = []
 film at s played before (event ∷ events) =
     (if is_due at event then shot_of s played (before ++ event ∷ []) else [])
     ++ film at s played (before ++ event ∷ []) events
 
--- What is written of events without a fault at flips is their film, and then what `shot` writes of all of them. At
--- marks it is their film alone.
+-- The output for events without a fault: for flips their film, and then what `shot` writes for all of them; for marks
+-- their film alone.
 pub record FramesAreShots : Type 0 where
   pub flips : (s : Machine) (played : ℕ) (events : List Event) (heard : List Reading)
       → AreFaultless (from_state s played) events

@@ -10,14 +10,14 @@ use Rattle.event_play.specs.Told.{told_notes}
 use Rattle.event_play.specs.declared.ending.Ending.TheVariants.{Done}
 use Rattle.event_play.specs.declared.ending.Mode.{Mode}
 
--- the replay of events alone, which ends with Done where none of them has a fault
+-- the replay of a list of events, which ends with `Done` if none of them has a fault
 abbrev pub alone : Tale → List Event → Played
 alone t events = played_events t events End []
 
 abbrev pub AreFaultless : Tale → List Event → Type 0
 AreFaultless t events = (alone t events).ending ≡ Done
 
--- what was played before, and then this
+-- the replay `past`, followed by `now`
 abbrev pub behind_past : (past now : Tale) → Tale
 behind_past past now = record {
   state = now.state;
@@ -33,10 +33,10 @@ behind_past past now = record {
 abbrev pub with_past : Tale → Played → Played
 with_past past r = record { tale = behind_past past r.tale; ending = r.ending; rest = r.rest }
 
--- None of the first events has a fault where the whole replay ends with Done. Events behind others that have no fault
--- go on from the tale of those. They show, tell and cost what they do from its machine alone, behind what the tale has.
--- So what is written is the lines of that tale, and then what the later events write from its machine, by taps that
--- have heard its notes.
+-- If a whole replay ends with `Done`, none of its first events has a fault. Events after others without a fault
+-- continue from the replay of those. What they show, note, change and cost depends only on its machine, and is added to
+-- what it has. So the output is the lines of the earlier events, and then the output of the later ones. The taps of the
+-- later ones have recorded the earlier notes.
 pub record SplitLaw : Type 0 where
   pub first : (t : Tale) (events more : List Event) (stop : Stop) (rest : List ℕ)
       → (played_events t (events ++ more) stop rest).ending ≡ Done → AreFaultless t events

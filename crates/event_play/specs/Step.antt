@@ -20,23 +20,23 @@ use Rattle.event_play.specs.declared.work.Work.TheVariants as work
 use Rattle.event_play.specs.declared.work.Words.{Words}
 use Rattle.event_play.specs.declared.work.Words.TheVariants as words
 
--- the drawing processor, main memory, and the transfer that runs
+-- the GPU, main memory, and the running transfer
 pub record Machine : Type 0 where
   pub gpu : State
   pub ram : List ℕ
   pub running : Run
 
--- zeros everywhere, the registers after a reset, and nothing that runs
+-- zeros in both memories, the registers after a reset, and no running transfer
 unfoldable pub first_machine : Machine
 first_machine = record { gpu = first_state; ram = first_memory; running = run.Idle }
 
--- with the rows of the tall profile in video memory; all else stays
+-- the machine with 1024 rows of video memory; everything else stays
 abbrev pub tall_machine : Machine → Machine
 tall_machine s = record s { gpu = tall_state s.gpu }
 
--- ---- one work
+-- ---- one operation
 
--- the words, by main memory
+-- the words that are fed, read from main memory
 abbrev pub words_of : List ℕ → Words → List ℕ
 words_of ram (words.One word) = word ∷ []
 words_of ram (words.Block block) = block_words ram block
@@ -49,15 +49,15 @@ pub record Stepped : Type 0 where
   pub shown : Option ℕ
   pub notes : List Note
 
--- nothing is shown or noted
+-- a step without a shown word or a note
 abbrev pub quiet : Machine → Stepped
 quiet s = record { machine = s; shown = None; notes = [] }
 
--- this word is shown, and these notes are told
+-- a step that shows this word, if any, and has these notes
 abbrev pub showing : Machine → (shown : Option ℕ) → List Note → Stepped
 showing machine shown notes = record { machine = machine; shown = shown; notes = notes }
 
--- a work that is done in the event of this number
+-- the step that an operation makes in event `number`
 abbrev pub done : Machine → (number : ℕ) → Work → Stepped
 done s number work.Nothing = quiet s
 done s number (work.Put address word) = quiet (record s { ram = set s.ram address word })
@@ -79,7 +79,7 @@ done s number work.Stat = record { machine = s; shown = Some (status_word s.gpu)
 done s number (work.Clear madr n) = quiet (record s { ram = cleared_table s.ram madr n })
 done s number (work.Begin next) = quiet (record s { running = next })
 
--- its most store steps: those of the words that it feeds, or of the reads that it takes
+-- the most store steps of an operation: those of the words that it feeds, or of its reads
 abbrev pub work_cost : Machine → Work → ℕ
 work_cost s (work.Feed asked next) = fed_cost s.gpu (words_of s.ram asked)
 work_cost s (work.Take block next) = (taken block s.gpu s.ram).cost
@@ -109,7 +109,7 @@ abbrev pub step_box_cost : Machine → Result Work EventFault → ℕ
 step_box_cost s (Ok asked) = work_box_cost s asked
 step_box_cost s (Err fault) = 0
 
--- the event of this number, or its fault, which has no new state
+-- the step of event `number`, or its fault; a fault has no new machine
 unfoldable pub event_step : Machine → (number : ℕ) → Event → Result Stepped EventFault
 event_step s number event = stepped s number (work_of s.ram s.running event)
 
@@ -117,8 +117,8 @@ event_step s number event = stepped s number (work_of s.ram s.running event)
 unfoldable pub event_cost : Machine → Event → ℕ
 event_cost s event = step_cost s (work_of s.ram s.running event)
 
--- the same by the boxes: four for each cell of the box of what is drawn, of a fill or of a copy, and for each pixel
--- loaded or read
+-- the same by the boxes: four for each cell in the box of what is drawn, filled or copied, and for each pixel loaded or
+-- read
 unfoldable pub event_box_cost : Machine → Event → ℕ
 event_box_cost s event = step_box_cost s (work_of s.ram s.running event)
 

@@ -16,7 +16,7 @@ pub record Numbered : Type 0 where
 abbrev pub numbered : (number : ℕ) → Event → Numbered
 numbered number event = record { number = number; event = event }
 
--- a machine played it, it showed this word, and the taps were told every note
+-- The machine `s` played the event. The event showed this word, if any, and the taps received every note.
 pub record HasStepped (s : Machine) (given : Numbered) (shown : Option ℕ) (before : Outlets) (now : Setting)
     : Type 0 where
   pub machine : Machine

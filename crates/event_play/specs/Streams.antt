@@ -1,11 +1,11 @@
--- What playing works on besides its rig.
+-- What playing changes besides its rig.
 use Rattle.std.specs.Prelude.{ℕ, List, [], Option, None}
 use Rattle.gathered_out.specs.Pieces.{Piece}
 use Rattle.gathered_out.specs.Puts.{SinkState}
 use Rattle.gpu_taps.specs.Tally.{Reading}
 
--- the bytes that the sink holds (None where they are not told), how often it failed, what is gathered for it, what the
--- taps say, and the store steps
+-- the bytes that the sink holds (None if unknown), its count of faults, its buffer, what the taps recorded, and the
+-- store steps
 pub record Outlets : Type 0 where
   pub held : Option (List ℕ)
   pub faults : ℕ
@@ -13,28 +13,28 @@ pub record Outlets : Type 0 where
   pub heard : List Reading
   pub steps : ℕ
 
--- where nothing is gathered
+-- the same with an empty buffer
 abbrev pub outlets : (held : Option (List ℕ)) (faults : ℕ) (heard : List Reading) (steps : ℕ) → Outlets
 outlets held faults heard steps =
     record { held = held; faults = faults; gathered = []; heard = heard; steps = steps }
 
--- where these pieces are
+-- the same with these pieces in the buffer
 abbrev pub gathering : List Piece → Outlets → Outlets
 gathering pieces at = record at { gathered = pieces }
 
--- the sink and what is gathered for it, and these with what the taps say, and the store steps
+-- the sink and its buffer; below, the same with what the taps recorded and the store steps
 abbrev pub sink_of : Outlets → SinkState
 sink_of at = record { held = at.held; faults = at.faults; gathered = at.gathered }
 
 abbrev pub with_sink : SinkState → (heard : List Reading) (steps : ℕ) → Outlets
 with_sink at heard steps = gathering at.gathered (outlets at.held at.faults heard steps)
 
--- those of a call that writes nothing
+-- the same for a call that writes nothing
 abbrev pub without_sink : (heard : List Reading) (steps : ℕ) → Outlets
 without_sink heard steps = outlets None 0 heard steps
 
--- of a whole capture: the bytes left of the source and those that the sink holds (None where they are not told), what
--- the taps say, and the store steps
+-- for a whole capture: the bytes left of the source and those that the sink holds (None if unknown), what the taps
+-- recorded, and the store steps
 pub record Streams : Type 0 where
   pub left : Option (List ℕ)
   pub held : Option (List ℕ)

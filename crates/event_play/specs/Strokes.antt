@@ -1,4 +1,4 @@
--- What words of GP0 change of a cell (our own rule).
+-- What words of GP0 change in video memory (our own rule).
 use Rattle.std.specs.Prelude.{ℕ, ◌+◌, ◌==◌, ◌&&◌, List, [], ◌∷◌, Option, None, Some, nat_lt, if◌then◌else◌}
 use Rattle.px_num.specs.declared.shape.Cell.{Cell}
 use Rattle.gp0_packets.specs.declared.note.Note.{Note}
@@ -8,7 +8,7 @@ use Rattle.packet_text.specs.Line.{change_line}
 use Rattle.vram_store.specs.Vram.{at, height_of}
 use Rattle.event_play.specs.Step.{Machine, event_words}
 
--- a word that was fed: the note of the item that it completed, if it did, and video memory before and behind it
+-- the change of a fed word: the note of the item that it completed, if any, and video memory before and after the word
 pub record Stroke : Type 0 where
   pub note : Option Note
   pub before : List ℕ
@@ -18,22 +18,22 @@ abbrev pub stroke_of : State → (number word : ℕ) → Stroke
 stroke_of s number word =
     record { note = gp0_note s number word; before = s.parts.m; after = (after_gp0 s word).parts.m }
 
--- words, one after another, all in the event of this number
+-- the changes of words, all fed in event `number`
 abbrev pub fed_strokes : State → (number : ℕ) → List ℕ → List Stroke
 fed_strokes s number [] = []
 fed_strokes s number (word ∷ words) = stroke_of s number word ∷ fed_strokes (after_gp0 s word) number words
 
--- those of an event
+-- the changes of an event
 abbrev pub event_strokes : Machine → (number : ℕ) → Event → List Stroke
 event_strokes s number event = fed_strokes s.gpu number (event_words s event)
 
 -- ---- one cell
 
--- the value of a cell; 0 where video memory has no such cell
+-- the value of a cell; 0 if video memory has no such cell
 abbrev pub seen_cell : Cell → List ℕ → ℕ
 seen_cell cell m = if nat_lt cell.x 1024 && nat_lt cell.y (height_of m) then at m cell.x cell.y else 0
 
--- the line of an item that leaves another value than it found
+-- the line of an item that changed the value of the cell; empty if it did not, or if no item was completed
 abbrev pub change_of : Option Note → (before after : ℕ) → List ℕ
 change_of None before after = []
 change_of (Some note) before after = if before == after then [] else change_line note before after
@@ -41,7 +41,7 @@ change_of (Some note) before after = if before == after then [] else change_line
 abbrev pub stroke_lines : Cell → Stroke → List ℕ
 stroke_lines cell stroke = change_of stroke.note (seen_cell cell stroke.before) (seen_cell cell stroke.after)
 
--- the store steps of looking at the cell: one before and one behind each word
+-- the store steps of looking at the cell: one before and one after each word
 abbrev pub looks_cost : List Stroke → ℕ
 looks_cost [] = 0
 looks_cost (stroke ∷ strokes) = 2 + looks_cost strokes

@@ -1,4 +1,4 @@
--- Reads whose words are put into main memory, one after another.
+-- Reads whose words are stored in main memory, one after another.
 use Rattle.std.specs.Prelude.{ℕ, ◌+◌, List}
 use Rattle.px_num.specs.Fold.{each_below}
 use Rattle.gpu_core.specs.Cost.{read_cost, read_box_cost}
@@ -7,14 +7,14 @@ use Rattle.ot_clear_dma.specs.Ram.{set}
 use Rattle.event_play.specs.Block.{address_in}
 use Rattle.event_play.specs.declared.block.Block.{Block}
 
--- the drawing processor, main memory, and the most store steps so far, also by the boxes
+-- the GPU, main memory, and the most store steps so far, also by the boxes
 pub record Taken : Type 0 where
   pub gpu : State
   pub ram : List ℕ
   pub cost : ℕ
   pub box_cost : ℕ
 
--- a read, whose word is put at this place of a block
+-- one read, whose word is stored as word `i` of a block
 abbrev pub take_one : Block → ℕ → Taken → Taken
 take_one block i t = record {
   gpu = after_read t.gpu;
@@ -23,7 +23,7 @@ take_one block i t = record {
   box_cost = t.box_cost + read_box_cost t.gpu;
 }
 
--- the first reads for a block
+-- the first n reads for a block
 abbrev pub first_taken : Block → ℕ → State → List ℕ → Taken
 first_taken block n s ram = each_below (take_one block) n (record { gpu = s; ram = ram; cost = 0; box_cost = 0 })
 

@@ -1,4 +1,4 @@
--- A transfer that goes on turn by turn while main memory is written, beside the same transfer done at once.
+-- A transfer that runs in turns while main memory is written, compared with the same transfer done at once.
 use Rattle.std.specs.Prelude.{◌≡◌, ◌≢◌, ℕ, zero, suc, ◌+◌, List, [], ◌∷◌, ◌++◌, flat_map, None, Result, Ok, Err, false}
 use Rattle.gpu_capture.specs.declared.event.Event.{Event}
 use Rattle.gpu_capture.specs.declared.event.Event.TheVariants as event
@@ -23,7 +23,7 @@ abbrev pub then_after : Result Stepped EventFault → (Machine → Result Machin
 then_after (Ok stepped) on = on stepped.machine
 then_after (Err fault) on = Err fault
 
--- the machine after events, the first of them of this number, or the first fault
+-- the machine after events numbered from `number` on, or the first fault
 abbrev pub after_events : Machine → (number : ℕ) → List Event → Result Machine EventFault
 after_events s number [] = Ok s
 after_events s number (next ∷ events) =
@@ -37,7 +37,7 @@ writes_of (other ∷ events) = writes_of events
 
 -- ---- what remains of a transfer
 
--- the addresses of so many words behind an address
+-- the addresses of the n words after an address
 abbrev pub addresses_behind : (address n : ℕ) → List ℕ
 addresses_behind address zero = []
 addresses_behind address (suc n) = (address + 4) ∷ addresses_behind (address + 4) n
@@ -46,18 +46,18 @@ addresses_behind address (suc n) = (address + 4) ∷ addresses_behind (address +
 abbrev pub node_addresses : List ℕ → (node : ℕ) → List ℕ
 node_addresses ram node = node ∷ addresses_behind node (word_count ram node)
 
--- the addresses of the first words of a block
+-- the addresses of the first i words of a block
 abbrev pub first_addresses : Block → ℕ → List ℕ
 first_addresses block zero = []
 first_addresses block (suc i) = first_addresses block i ++ address_in block i ∷ []
 
--- the addresses that a running transfer still has to read, by main memory as it is
+-- the addresses that a running transfer has still to read, with main memory as it is
 abbrev pub remaining : List ℕ → Run → List ℕ
 remaining ram run.Idle = []
 remaining ram (run.Words at left block back to_ram) = first_addresses (record { at = at; n = left; back = back }) left
 remaining ram (run.List node) = flat_map (node_addresses ram) (walk_of ram node)
 
--- an address is that of none of these words
+-- the address is that of none of these words
 abbrev pub IsApart : ℕ → List ℕ → Type 0
 IsApart address [] = Unit {0}
 IsApart address (other ∷ others) = (cut other ≢ cut address) × IsApart address others
@@ -66,7 +66,7 @@ IsApart address (other ∷ others) = (cut other ≢ cut address) × IsApart addr
 abbrev pub turned : Machine → Machine
 turned s = (done s 0 (turn_work s.ram s.running)).machine
 
--- only turns and writes come, and no write is at an address that remains before it
+-- Only turns and writes occur, and no write is to an address that then remains to be read.
 abbrev pub AreApart : Machine → List Event → Type 0
 AreApart s [] = Unit {0}
 AreApart s (event.Turn ∷ events) = AreApart (turned s) events
@@ -82,9 +82,9 @@ MovesFromRam ram madr (Ok (plan.Words n back to_ram)) = to_ram ≡ false
 MovesFromRam ram madr (Ok plan.List) = (loop_of ram madr ≡ None) × (is_end madr ≡ false)
 MovesFromRam ram madr other = ⊥
 
--- Let a transfer from main memory be begun, and let only turns and writes come until nothing runs, none of them at an
--- address that remains before it. Then the machine is that after the whole transfer, done by a Dma event with the same
--- registers, and then those writes in their order. The numbers of the events do not matter.
+-- A transfer from main memory is begun. Then only turns and writes occur until no transfer runs, and no write is to an
+-- address that remains to be read. The machine is then that after a Dma event with the same registers, followed by the
+-- same writes in order. The numbers of the events do not matter.
 abbrev pub TurnsAreWhole : Type 0
 TurnsAreWhole = (s started ended : Machine) (number other madr bcr chcr : ℕ) (events : List Event)
     → MovesFromRam s.ram madr (plan_of bcr chcr)

@@ -1,4 +1,4 @@
--- What an event asks of the machine, or why it is refused.
+-- The operation of an event, or its fault.
 use Rattle.std.specs.Prelude.{◌≤◌, ℕ, ◌-◌, ◌%◌, ◌^◌, ◌==◌, Bool, min, List, Option, None, Some, Result, Ok, Err}
 use Rattle.std.specs.Prelude.{if◌then◌else◌}
 use Rattle.gpu_capture.specs.declared.event.Event.{Event}
@@ -21,7 +21,7 @@ use Rattle.event_play.specs.declared.work.Work.TheVariants as work
 use Rattle.event_play.specs.declared.work.Words.{Words}
 use Rattle.event_play.specs.declared.work.Words.TheVariants as words
 
--- words go one way or the other, and then this transfer runs
+-- a block is moved to main memory or from it; then this transfer runs
 abbrev pub move_work : Block → (to_ram : Bool) → Run → Work
 move_work block to_ram next = if to_ram then work.Take block next else work.Feed (words.Block block) next
 
@@ -31,18 +31,18 @@ fault_of (dma_fault.TooLong words) = DmaTooLong words
 
 -- ---- channel 6
 
--- a start with bit 24 clears a table of as many words as BCR's low half says, where 0 stands for 10000h
+-- A start with bit 24 of CHCR set clears a table. The low half of BCR is its number of words, with 0 for 10000h.
 abbrev pub clear_work : (madr bcr chcr : ℕ) → Work
 clear_work madr bcr chcr = if is_started chcr then work.Clear madr (count_of (bcr % 2 ^ 16)) else work.Nothing
 
 -- ---- channel 2
 
--- a list is fed whole, unless its walk meets an address again
+-- A list is fed whole, unless its walk reaches an address again.
 abbrev pub list_work : (madr : ℕ) → Option ℕ → Result Work EventFault
 list_work madr None = Ok (work.Feed (words.List madr) run.Idle)
 list_work madr (Some node) = Err (ListLoop node)
 
--- a start that moves all at once, and leaves nothing running
+-- a start that moves everything at once and leaves no transfer running
 abbrev pub start_work : List ℕ → (madr : ℕ) → Result Plan DmaFault → Result Work EventFault
 start_work ram madr (Ok plan.Idle) = Ok work.Nothing
 start_work ram madr (Ok (plan.Words n back to_ram)) =
@@ -50,7 +50,7 @@ start_work ram madr (Ok (plan.Words n back to_ram)) =
 start_work ram madr (Ok plan.List) = list_work madr (loop_of ram madr)
 start_work ram madr (Err why) = Err (fault_of why)
 
--- a start that moves nothing yet; a list may never end
+-- a start that moves nothing yet; its list need not end
 abbrev pub begin_work : Result (Option Run) DmaFault → Result Work EventFault
 begin_work (Ok None) = Ok work.Nothing
 begin_work (Ok (Some next)) = Ok (work.Begin next)
@@ -58,16 +58,16 @@ begin_work (Err why) = Err (fault_of why)
 
 -- ---- turns
 
--- what is left of a transfer of words, if any word is left
+-- the rest of a transfer of words, if any word is left
 abbrev pub words_left : (at left block : ℕ) → (back to_ram : Bool) → Run
 words_left at left block back to_ram = if left == 0 then run.Idle else run.Words at left block back to_ram
 
--- what is left of a list, from this node on
+-- the rest of a list, from this node on
 abbrev pub list_left : Option ℕ → Run
 list_left None = run.Idle
 list_left (Some node) = run.List node
 
--- a turn moves one block, or what is left where that is less; or the words of one node, whose header is read now
+-- A turn moves one block, or the rest if that is shorter; or the words of one node, whose header is read now.
 abbrev pub turn_work : List ℕ → Run → Work
 turn_work ram run.Idle = work.Nothing
 turn_work ram (run.Words at left block back to_ram) =
@@ -77,7 +77,7 @@ turn_work ram (run.List node) = work.Feed (words.Node node) (list_left (node_of 
 
 -- ---- every event
 
--- what an event asks for, by main memory and the running transfer
+-- the operation of an event, by main memory and the running transfer
 abbrev pub work_of : List ℕ → Run → Event → Result Work EventFault
 work_of ram running (event.Ram address word) = Ok (work.Put address word)
 work_of ram running (event.Gp0 word) = Ok (work.Feed (words.One word) running)
@@ -92,14 +92,14 @@ work_of ram running event.Turn = Ok (turn_work ram running)
 
 -- ---- bounds
 
--- what holds of all words that an event feeds
+-- the bounds of words that an operation feeds
 abbrev pub AreWords : Words → Type 0
 AreWords (words.One word) = Unit {0}
 AreWords (words.Block block) = IsBlock block
 AreWords (words.Node node) = node ≤ 2 ^ 21
 AreWords (words.List start) = Unit {0}
 
--- what holds of every work that an event asks for
+-- the bounds of every operation of an event
 abbrev pub IsWork : Work → Type 0
 IsWork work.Nothing = Unit {0}
 IsWork (work.Put address word) = Unit {0}

@@ -1,20 +1,21 @@
-// Words of main memory, one after another.
+// Contiguous words of main memory.
 ghost use Rattle.std.specs.Prelude.{◌≡◌, ◌≤◌};
 ghost use Rattle.ot_clear_dma.specs.Ram.{cut, memory_words};
 ghost use Rattle.event_play.specs.Block.{address_in};
 
-/// So many words of main memory, one after another.
+/// `n` contiguous words of main memory.
 #[derive(Clone, Copy, Debug, PartialEq, Eq)]
 pub struct Block {
-    /// The address of the first word.
+    /// The byte address of the first word.
     pub at: u32,
-    /// How many words there are.
+    /// The number of words.
     pub n: u32,
-    /// Whether each address is 4 before the last one, in place of 4 behind it.
+    /// Whether addresses decrease by 4 instead of increasing by 4.
     pub back: bool,
 }
 
-/// The address of the word at a place of a block, or of the one behind its last word.
+/// Returns the byte address of word `i` of a block, `i` at most 524,288. For `i` = `block.n` this is the address after
+/// the last word.
 #[tactic(auto, unfolding(crate::specs::Block::address_in))]
 pub(crate) fn address_in(block: Block, i: u32) -> u32
     requires { i ≤ memory_words }

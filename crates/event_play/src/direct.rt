@@ -1,4 +1,4 @@
-// Words of GP0, an event each, without what a capture asks for beside them.
+// Words written to GP0 without a capture, one event per word.
 ghost use Rattle.std.specs.Prelude.{◌≡◌, map, None};
 ghost use Rattle.gpu_core.specs.Machine.{gp0_note};
 ghost use Rattle.event_play.specs.OwnWords.{Tells};
@@ -19,8 +19,8 @@ use std::sync::ledger::Ledger;
 use vram_store::Steps;
 
 impl Rig {
-    /// Takes a word of GP0 as the next event, and answers the note of the item that it completes. None comes exactly
-    /// where it completes none.
+    /// Feeds `word` to GP0 as the next event. Returns the note of the item that it completes, or `None` if it completes
+    /// none.
     pub fn take_word<T: Listener, L: Ledger>(
         &mut self,
         word: u32,
@@ -38,8 +38,8 @@ impl Rig {
         self.gpu.gp0(number, word, taps, steps)
     }
 
-    /// Plays the event of a word that is written to GP0. It asks for no judgement, and touches nothing of the rig but
-    /// the drawing processor.
+    /// Plays a Gp0 event. It needs no validation, since it has no fault. It changes only the GPU and the number of
+    /// events.
     pub(crate) fn event_word<T: Listener, L: Ledger>(
         &mut self,
         word: u32,
@@ -57,7 +57,7 @@ impl Rig {
         let _ = self.gpu.gp0(number, word, taps, steps);
     }
 
-    /// Takes words of GP0, an event each. Words that belong together are taken at once.
+    /// Feeds `words` to GP0, one event per word. Words that belong together are executed as one block.
     pub fn take_words<T: Listener, L: Ledger>(
         &mut self,
         words: &[u32],

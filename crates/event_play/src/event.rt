@@ -1,4 +1,4 @@
-// Events of a capture are played one by one, with what is due for them.
+// Plays the events of a capture one by one, with their output.
 ghost use Rattle.std.specs.Prelude.{◌≡◌, map};
 ghost use Rattle.event_play.specs.Ends.{PlaysOrEnds};
 ghost use Rattle.event_play.specs.Setting.{setting};
@@ -19,7 +19,7 @@ use std::sync::ledger::Ledger;
 use vram_store::Steps;
 
 impl Rig {
-    /// Plays one event, and puts or writes what is due for it.
+    /// Plays one event, and adds or writes its output. Returns the ending if the event has a fault or a write fails.
     pub(crate) fn play_event<K: Sink, T: Listener, L: Ledger>(
         &mut self,
         event: InMode<Event>,
@@ -45,8 +45,8 @@ impl Rig {
         }
     }
 
-    // The same for a word that is written to GP0. It asks for no judgement, and touches nothing of the rig but the
-    // drawing processor.
+    // The same for a word written to GP0. It needs no validation, since it has no fault. It changes only the GPU and
+    // the number of events.
     fn play_word<K: Sink, T: Listener, L: Ledger>(
         &mut self,
         word: InMode<u32>,

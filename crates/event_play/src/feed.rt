@@ -1,5 +1,5 @@
-// Words that go to GP0, one after another. A call that feeds words has six parameters, since a word reaches all that
-// playing works on: the drawing processor, what puts lines, the taps and the steps.
+// Words fed to GP0, one after another. The functions have six parameters, since a word may change everything that
+// playing changes: the GPU, the lines, the taps and the store steps.
 ghost use Rattle.std.specs.Prelude.{◌≡◌, ◌≤◌, ◌<◌, ◌+◌, [], ◌∷◌, length, take, map};
 ghost use Rattle.event_play.specs.Feeding.{FeedsWords, drawing, in_event};
 ghost use Rattle.event_play.specs.PlayedWords.{IsTold, after_words, number_behind};
@@ -16,9 +16,8 @@ use px_num::Cell;
 use std::sync::ledger::Ledger;
 use vram_store::Steps;
 
-/// Feeds words in the event of this number, and puts their lines as they come, if the mode asks for them. Where that
-/// fails, the words behind the item whose line it was are not fed, and the answer is the number of the first event
-/// whose lines lack a byte.
+/// Feeds `words` to GP0 in one event, and adds the lines of the completed items that the mode asks for. If a line
+/// cannot be written, feeds no further word, and returns the number of the first event whose lines are incomplete.
 pub(crate) fn feed<O: Outlet, T: Listener, L: Ledger>(
     gpu: &mut Gpu,
     within: Within,
@@ -42,8 +41,8 @@ pub(crate) fn feed<O: Outlet, T: Listener, L: Ledger>(
     Ok(())
 }
 
-/// Feeds a word in the event of this number, and puts the line of its note, or of what it changes of a cell, if the
-/// mode asks for it. Where that fails, the word has been fed all the same.
+/// Feeds `word` to GP0. Adds the line of its note in mode `List`, and of its change of the cell in mode `Pixel`. On
+/// failure, returns the number of the first event whose lines are incomplete; the word has then been fed.
 pub(crate) fn feed_word<O: Outlet, T: Listener, L: Ledger>(
     gpu: &mut Gpu,
     within: Within,
@@ -71,7 +70,7 @@ pub(crate) fn feed_word<O: Outlet, T: Listener, L: Ledger>(
     }
 }
 
-// A word that is fed in the event of this number, while a cell is looked at.
+// A word fed in event `number`, and the cell that is watched.
 #[derive(Clone, Copy)]
 struct Watch {
     number: u64,
@@ -79,7 +78,7 @@ struct Watch {
     cell: Cell,
 }
 
-// Feeds a word while a cell is looked at.
+// Feeds a word, and adds the line of the item that it completes if that changed the cell.
 fn feed_watched<O: Outlet, T: Listener, L: Ledger>(
     gpu: &mut Gpu,
     watch: Watch,
@@ -98,7 +97,7 @@ fn feed_watched<O: Outlet, T: Listener, L: Ledger>(
     put_changed(watch.number, &note, before, after, lines)
 }
 
-// The value of a cell, or 0 where video memory has no such cell.
+// Returns the value of a cell, or 0 if video memory has no such cell. Costs at most one store step.
 fn seen_cell<L: Ledger>(gpu: &Gpu, cell: Cell, steps: &mut Steps<L>) -> u16
     ensures value { result ≡ seen_cell cell gpu.now.parts.m }
     ensures cost { steps.new ≤ steps.old + 1 }
@@ -111,7 +110,7 @@ fn seen_cell<L: Ledger>(gpu: &Gpu, cell: Cell, steps: &mut Steps<L>) -> u16
     }
 }
 
-/// Feeds words, an event each, behind so many events, and says how many were played then. No line is written for them.
+/// Feeds `words` to GP0 after `played` events, one event per word. Returns the new number of events. Writes no output.
 pub(crate) fn feed_events<T: Listener, L: Ledger>(
     gpu: &mut Gpu,
     played: u64,
@@ -133,8 +132,8 @@ pub(crate) fn feed_events<T: Listener, L: Ledger>(
     number
 }
 
-/// Feeds the first of these words, an event each, as many as the drawing processor takes at once, and says how many
-/// that are.
+/// Feeds a prefix of `words`, one event per word, as many as the GPU executes as one block. Returns its length, at
+/// least 1. There must be at least one word.
 #[inline(always)]
 fn feed_first<T: Listener, L: Ledger>(
     gpu: &mut Gpu,

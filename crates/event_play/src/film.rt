@@ -1,4 +1,4 @@
-// The pictures that are shown one after another, and their sums.
+// The pictures of a film and their digests.
 ghost use Rattle.std.specs.Prelude.{◌≡◌, ◌≤◌, ◌+◌, ◌++◌, flat_map};
 ghost use Rattle.dev_io.specs.Device.{Writes, side};
 ghost use Rattle.picture_out.specs.Dump.{dump_cost};
@@ -15,7 +15,7 @@ use px_num::bits;
 use std::sync::ledger::Ledger;
 use vram_store::Steps;
 
-/// An event that was played: its number, and the word that it shows.
+/// An event that was played, its number, and the word that it shows.
 #[derive(Clone, Copy)]
 pub(crate) struct Played {
     pub(crate) event: Event,
@@ -23,7 +23,7 @@ pub(crate) struct Played {
     pub(crate) shown: Option<u32>,
 }
 
-/// Writes the picture behind an event, if it is one of the moments asked for and a picture is shown.
+/// Writes the picture after an event if `at` selects that event and a picture is shown.
 pub(crate) fn write_frames<K: Sink, L: Ledger>(
     gpu: &Gpu,
     played: Played,
@@ -41,7 +41,7 @@ pub(crate) fn write_frames<K: Sink, L: Ledger>(
     }
 }
 
-/// The same for the line of the picture's sum.
+/// The same for the line of the picture's digest.
 pub(crate) fn write_sums<K: Sink, L: Ledger>(
     gpu: &Gpu,
     played: Played,
@@ -59,7 +59,7 @@ pub(crate) fn write_sums<K: Sink, L: Ledger>(
     }
 }
 
-// Whether a word of GP1 is one of the moments asked for.
+// Returns whether `at` selects this word of GP1: opcode 05h for `Flip`, 3Fh for `Mark`.
 fn is_moment(at: Moment, word: u32) -> bool
     ensures { result ≡ is_moment at word }
 {
@@ -70,7 +70,7 @@ fn is_moment(at: Moment, word: u32) -> bool
     }
 }
 
-/// Writes the picture that is due at the end, if it is and one is shown.
+/// Writes the picture at the end if `at` is `Flip` and a picture is shown.
 pub(crate) fn write_last_frame<K: Sink, L: Ledger>(
     gpu: &Gpu,
     at: Moment,
@@ -87,7 +87,8 @@ pub(crate) fn write_last_frame<K: Sink, L: Ledger>(
     }
 }
 
-/// Writes the line of that picture's sum, and then that of video memory.
+/// Writes the line of that picture's digest, with this event number. Then writes the line of the digest of video
+/// memory.
 pub(crate) fn write_last_sums<K: Sink, L: Ledger>(
     gpu: &Gpu,
     number: u64,
@@ -103,7 +104,7 @@ pub(crate) fn write_last_sums<K: Sink, L: Ledger>(
     write_memory_sum(gpu, out, steps)
 }
 
-// The line of the sum of the picture that is due at the end.
+// Writes the line of the digest of the picture at the end, if `at` is `Flip` and a picture is shown.
 fn write_last_sum<K: Sink, L: Ledger>(
     gpu: &Gpu,
     number: u64,
@@ -121,7 +122,7 @@ fn write_last_sum<K: Sink, L: Ledger>(
     }
 }
 
-// The line of the sum of all cells of video memory.
+// Writes the line of the digest of all cells of video memory.
 #[tactic(auto, unfolding(crate::specs::Frames::vram_sum))]
 fn write_memory_sum<K: Sink, L: Ledger>(
     gpu: &Gpu,
@@ -135,7 +136,7 @@ fn write_memory_sum<K: Sink, L: Ledger>(
     write_vram_sum(out, &digest)
 }
 
-// Writes the picture that is shown, if one is.
+// Writes the picture if one is shown.
 #[tactic(auto, unfolding(crate::specs::Frames::frame_bytes, crate::specs::Frames::frame_cost))]
 fn write_frame<K: Sink, L: Ledger>(
     gpu: &Gpu,
@@ -151,7 +152,7 @@ fn write_frame<K: Sink, L: Ledger>(
     write_ppm(gpu.vram(), gpu.regs(), out, steps)
 }
 
-// Writes the line of its sum.
+// Writes the line of the picture's digest if a picture is shown.
 #[tactic(auto, unfolding(crate::specs::Frames::frame_sum, crate::specs::Frames::frame_cost))]
 fn write_sum<K: Sink, L: Ledger>(
     gpu: &Gpu,

@@ -1,4 +1,4 @@
-// What is written behind an event, and behind the last one.
+// The output after an event, and after the last one.
 ghost use Rattle.std.specs.Prelude.{◌≡◌, ◌≤◌, ◌+◌, [], false, map, flat_map, option_to_list, OnErr};
 ghost use Rattle.dev_io.specs.Device.{Rose, Writes, side};
 ghost use Rattle.gpu_core.specs.Kept.{kept_of};
@@ -19,8 +19,8 @@ use picture_out::{shape, write_ppm, write_vram};
 use std::sync::ledger::Ledger;
 use vram_store::Steps;
 
-/// Writes what is due behind an event by the mode: the line of the word that it shows, or the picture or the line of
-/// its sum, where the event is one of the moments asked for.
+/// Writes the output after an event by the mode: the line of its shown word, or the picture or the line of its digest
+/// if the mode selects this event.
 pub(crate) fn write_behind<K: Sink, L: Ledger>(
     gpu: &Gpu,
     played: Played,
@@ -43,7 +43,7 @@ pub(crate) fn write_behind<K: Sink, L: Ledger>(
     }
 }
 
-// Writes the line of a word that an event shows.
+// Writes the line of the word that an event shows, if any.
 fn write_shown<K: Sink>(shown: Option<u32>, out: &mut K) -> Result<(), Failed>
     ensures { Writes (side K.held K.faults) out.old out.new (flat_map word_line (option_to_list shown)) result }
 {
@@ -53,7 +53,7 @@ fn write_shown<K: Sink>(shown: Option<u32>, out: &mut K) -> Result<(), Failed>
     }
 }
 
-/// Whether the mode asks for a picture and the registers show none.
+/// Returns whether the mode is `Shot` and the registers show no picture.
 pub(crate) fn lacks_picture(gpu: &Gpu, mode: Mode) -> bool
     ensures { result ≡ lacks_picture mode gpu.now.parts.regs }
 {
@@ -63,7 +63,8 @@ pub(crate) fn lacks_picture(gpu: &Gpu, mode: Mode) -> bool
     }
 }
 
-/// Writes what is due behind the last event, at the number of the next one, by the mode.
+/// Writes the final output of `within.mode`. `within.number` is the number of events played plus 1; only `Sums` prints
+/// it. `lacks_picture` must be false.
 #[tactic(auto, unfolding(crate::specs::Out::final_bytes, crate::specs::Out::final_cost))]
 pub(crate) fn write_finals<K: Sink, T: Listener, L: Ledger>(
     gpu: &Gpu,
@@ -92,7 +93,7 @@ pub(crate) fn write_finals<K: Sink, T: Listener, L: Ledger>(
     }
 }
 
-/// Writes the line of each tap of the list, in order.
+/// Writes the line of each tap, in the order of the list.
 pub fn write_report<K: Sink, T: Listener>(out: &mut K, taps: &Vec<T>) -> Result<(), Failed>
     ensures { Writes (side K.held K.faults) out.old out.new (flat_map tap_line (map T.heard taps.now.items)) result }
 {

@@ -1,4 +1,4 @@
-// What an event asks of the machine, or why it is refused. Nothing is changed before that is known.
+// The operation of an event, or its fault. Nothing is changed before this is known.
 ghost use Rattle.std.specs.Prelude.{◌≡◌, ◌≤◌, ◌-◌, ◌^◌, Option, IfOk, IfSome};
 ghost use Rattle.ot_clear_dma.specs.Ram.{memory_words};
 ghost use Rattle.list_dma.specs.Plans.{plan_of, begun, IsRun, IsWordAddress};
@@ -13,7 +13,8 @@ use gpu_capture::Event;
 use list_dma::{DmaFault, Plan, Run, Walk, block_plan, next_node, start_run};
 use ot_clear_dma::Ram;
 
-/// What an event asks for, or its fault. A list is walked to its end here, before any of it is fed.
+/// Returns the operation of an event, or its fault. Walks a list to its end before any of it is fed. `walk` is scratch
+/// memory for that; it has no value in contracts. `running` must be in its bounds.
 pub(crate) fn judge(
     event: &Event,
     walk: &mut Walk,
@@ -51,7 +52,8 @@ pub(crate) fn judge(
     }
 }
 
-// A start of channel 6.
+// Returns the operation of a start of channel 6: clears a table if bit 24 of CHCR is set. The low half of BCR is the
+// number of words, with 0 for 10000h.
 fn clear(madr: u32, bcr: u32, chcr: u32) -> Work
     ensures value { result ≡ clear_work madr bcr chcr }
     ensures bounds { IsWork result }
@@ -66,7 +68,7 @@ fn clear(madr: u32, bcr: u32, chcr: u32) -> Work
     }
 }
 
-// A start of channel 2 that moves all at once.
+// Returns the operation of a start of channel 2 that moves everything at once, or its fault.
 fn start(walk: &mut Walk, ram: &Ram, madr: u32, bcr: u32, chcr: u32) -> Result<Work, EventFault>
     ensures value { result ≡ start_work ram.now madr (plan_of bcr chcr) }
     ensures bounds { IfOk result IsWork }
@@ -88,7 +90,7 @@ fn start(walk: &mut Walk, ram: &Ram, madr: u32, bcr: u32, chcr: u32) -> Result<W
     }
 }
 
-// A start of channel 2 that moves nothing yet.
+// Returns the operation of a start of channel 2 that moves nothing before its first turn, or its fault.
 fn begin(madr: u32, bcr: u32, chcr: u32) -> Result<Work, EventFault>
     ensures value { result ≡ begin_work (begun madr bcr chcr (plan_of bcr chcr)) }
     ensures bounds { IfOk result IsWork }
@@ -100,7 +102,8 @@ fn begin(madr: u32, bcr: u32, chcr: u32) -> Result<Work, EventFault>
     }
 }
 
-// A turn of the running transfer.
+// Returns the operation of a turn: one block of the running transfer or the rest of it, or the words of one node of a
+// list. If no transfer runs, the turn does nothing.
 fn turn(ram: &Ram, running: Run) -> Work
     requires { IsRun running }
     ensures value { result ≡ turn_work ram.now running }
@@ -127,7 +130,8 @@ fn turn(ram: &Ram, running: Run) -> Work
     }
 }
 
-// Words that go one way or the other.
+// Returns the operation that moves a block to main memory (`to_ram`) or from it. After it, `next` is the running
+// transfer.
 fn move_words(block: Block, to_ram: bool, next: Run) -> Work
     requires size { IsBlock block }
     requires next { IsRun next }
@@ -144,7 +148,7 @@ fn move_words(block: Block, to_ram: bool, next: Run) -> Work
     }
 }
 
-// What is left of a transfer of words.
+// Returns the rest of a transfer of words, or `Idle` if no word is left.
 fn words_left(at: u32, left: u32, block: u32, back: bool, to_ram: bool) -> Run
     requires at { IsWordAddress at }
     requires left { left ≤ memory_words }
@@ -165,7 +169,7 @@ fn words_left(at: u32, left: u32, block: u32, back: bool, to_ram: bool) -> Run
     }
 }
 
-// What is left of a list from a node on.
+// Returns the rest of a list from `node` on, or `Idle` if the list ends.
 fn list_left(node: Option<u32>) -> Run
     requires { IfSome node IsWordAddress }
     ensures value { result ≡ list_left node }

@@ -1,37 +1,37 @@
-//! Laws of events, each of them the contract of a function that does nothing.
+//! Laws of events, each the contract of a function that does nothing.
 ghost use Rattle.event_play.specs.AlikeStates.{AlikeReplayAlike};
 ghost use Rattle.event_play.specs.Costs.{CostsAreSmall};
 ghost use Rattle.event_play.specs.Shots.{FramesAreShots};
 ghost use Rattle.event_play.specs.Splits.{SplitLaw};
 ghost use Rattle.event_play.specs.Turns.{TurnsAreWhole};
 
-/// A transfer from main memory that is begun and goes on turn by turn does what the whole transfer does at its start,
-/// and the writes to main memory that come between behind it, if none of them is at an address that the transfer still
-/// has to read.
+/// A transfer from main memory runs in turns to its end; a list has a node and ends. Between turns, only writes to main
+/// memory occur, none to an address that remains to be read. The final machine then equals that of one Dma event
+/// followed by the same writes.
 pub fn turns_are_whole()
     ensures { TurnsAreWhole }
 {}
 
-/// Playing takes at most four store steps for each cell of the boxes of what it draws, fills and copies, and for each
-/// pixel that it loads or reads.
+/// Playing costs at most four store steps per cell. Counted are the cells in the boxes of what it draws, fills and
+/// copies, and the pixels that it loads or reads.
 pub fn costs_are_small()
     ensures { CostsAreSmall }
 {}
 
-/// Machines that agree in all but their words, and whose words leave the same pending, replay every capture alike: they
-/// show the same words, tell the same notes, end the same way, cost the same and give the same output.
+/// Two machines that agree in everything except the words already fed, and have the same words pending, replay every
+/// capture alike. They show the same words, send the same notes, end alike, cost the same and write the same output.
 pub fn alike_replay_alike()
     ensures { AlikeReplayAlike }
 {}
 
-/// A replay may be cut between two events: what comes behind goes on from the machine behind what came before, and
-/// shows, tells, writes and costs what it does from there.
+/// A replay may be cut between two events. The later events start from the machine after the earlier ones. What they
+/// show, note, write and cost is the same from there.
 pub fn replays_can_be_cut()
     ensures { SplitLaw }
 {}
 
-/// Each picture that `frames` writes is what `shot` writes of the events up to that flip or mark, and at flips the last
-/// one is what `shot` writes of them all.
+/// Each picture that `frames` writes is what `shot` writes for the events up to that flip or mark. For flips, the last
+/// picture is what `shot` writes for all events.
 pub fn frames_are_shots()
     ensures { FramesAreShots }
 {}

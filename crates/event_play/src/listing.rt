@@ -1,5 +1,5 @@
-// Words that go to GP0, an event each, while the lines of their notes are put. As in feed.rt, a word reaches all that
-// playing works on.
+// Words fed to GP0 with the lines of their notes, one event per word. As in feed.rt, a word may change everything that
+// playing changes.
 ghost use Rattle.std.specs.Prelude.{◌≡◌, ◌≤◌, ◌<◌, length, take, map, option_to_list, IfSome, OnErr};
 ghost use Rattle.dev_io.specs.Device.{Rose};
 ghost use Rattle.gathered_out.specs.Puts.{holding};
@@ -22,7 +22,7 @@ use gpu_taps::Listener;
 use std::sync::ledger::Ledger;
 use vram_store::Steps;
 
-/// Words of a capture that are taken at once, and what is written of the capture.
+/// Words of a capture that were read as one block, and the mode of output.
 #[derive(Drop)]
 pub(crate) struct ModeWords {
     pub(crate) block: WordBlock,
@@ -30,9 +30,9 @@ pub(crate) struct ModeWords {
 }
 
 impl Rig {
-    /// Plays words that are written to GP0, an event each, and puts the lines of their notes if the mode lists them.
-    /// Where that fails, all of them are played all the same, and the answer is the number of the first event whose
-    /// lines lack a byte.
+    /// Plays words written to GP0, one event per word. In mode `List`, adds the lines of their notes, except for pixels
+    /// of a load. On failure, returns the number of the first event whose lines are incomplete; all words are played
+    /// nevertheless.
     pub(crate) fn play_words<K: Sink, T: Listener, L: Ledger>(
         &mut self,
         words: &ModeWords,
@@ -72,9 +72,9 @@ impl Rig {
     }
 }
 
-// Feeds words, an event each, behind the events played, and puts the line of each note but those of pixels, as they
-// come. Where that fails, the words behind it are fed all the same, and the answer is the number of the first event
-// whose lines lack a byte.
+// Feeds words after the events played, one event per word, and adds the line of each note except for pixels of a load.
+// If a line cannot be written, feeds the remaining words without lines, and returns the number of the first event whose
+// lines are incomplete.
 fn list_events<K: Sink, T: Listener, L: Ledger>(
     gpu: &mut Gpu,
     played: &mut u64,
@@ -110,8 +110,8 @@ fn list_events<K: Sink, T: Listener, L: Ledger>(
     Ok(())
 }
 
-// Feeds the first of these words, an event each, as many as the drawing processor takes at once up to a note, and hands
-// that on.
+// Feeds a prefix of `words`, one event per word, as many as the GPU executes as one block up to a note. Returns its
+// length, at least 1, and the note if there is one. There must be at least one word.
 fn feed_noted<T: Listener, L: Ledger>(
     gpu: &mut Gpu,
     played: u64,

@@ -1,4 +1,4 @@
-// What puts the lines of items.
+// The receivers of lines of items.
 ghost use Rattle.std.specs.Prelude.{◌≡◌, ◌≤◌, flat_map, length, option_to_list, IfSome, OnErr};
 ghost use Rattle.dev_io.specs.Device.{Rose};
 ghost use Rattle.gathered_out.specs.Pieces.{piece};
@@ -12,16 +12,16 @@ use gathered_out::Gathered;
 use gp0_packets::Note;
 use packet_text::{change_text, note_text};
 
-/// What puts the lines of items.
+/// A receiver of the lines of items.
 pub(crate) trait Outlet {
-    /// The sink behind it, and what is gathered for that.
+    /// The sink and its buffer.
     ghost state: { Self → SinkState };
 
-    /// Whether it is the same one at two times.
+    /// Whether two values are the same receiver at two times.
     ghost same: { Self → Self → Type 0 };
 
-    /// Puts a line that is due at the event of this number. The answer to a failure is the number of the first event
-    /// whose lines lack a byte.
+    /// Adds `line`, at most 4,096 bytes, to the output of event `number`. On failure, returns the number of the first
+    /// event whose lines are incomplete.
     fn put(&mut self, number: u64, line: &[u8]) -> Result<(), u64>
         requires { length line.now ≤ 4096 }
         ensures puts { Puts (piece number line.now) (state self.old) (state self.new) result }
@@ -32,7 +32,7 @@ pub(crate) trait Outlet {
     ghost same_on: { (x y z : Self) → same x y → same y z → same x z };
 }
 
-/// Where lines are gathered for a sink.
+/// Buffers lines for a sink.
 #[derive(Drop)]
 pub(crate) struct Lines<'a, K: Sink> {
     pub(crate) gathered: &'a mut Gathered,
@@ -56,7 +56,7 @@ impl<'a, K: Sink> Outlet for Lines<'a, K> {
     ghost same_on = { λ x y z first then. (first.0 ∙ then.0, first.1 ∙ then.1) };
 }
 
-/// Where no line is wanted.
+/// Ignores all lines.
 #[derive(Drop)]
 pub(crate) struct NoLines {}
 
@@ -76,7 +76,7 @@ impl Outlet for NoLines {
     ghost same_on = { λ x y z first then. tt };
 }
 
-/// Puts the line of an item that left another value in a cell than it found.
+/// Adds the line of an item if one was completed and `before` and `after`, the values of the cell, differ.
 pub(crate) fn put_changed<O: Outlet>(
     number: u64,
     note: &Option<Note>,
@@ -94,7 +94,8 @@ pub(crate) fn put_changed<O: Outlet>(
     }
 }
 
-/// Puts the line of a note, unless it is that of pixels.
+/// Adds the line of a note to event `number`, unless there is none or it is for pixels of a load. The class of the note
+/// must be at most 9.
 pub(crate) fn put_listed<O: Outlet>(
     number: u64,
     note: &Option<Note>,
@@ -111,7 +112,8 @@ pub(crate) fn put_listed<O: Outlet>(
     }
 }
 
-/// Puts the line of a note at the number of its event, unless it is that of pixels.
+/// Adds the line of a note to the note's own event, unless there is none or it is for pixels of a load. The class of
+/// the note must be at most 9.
 pub(crate) fn put_noted<K: Sink>(note: &Option<Note>, lines: &mut Lines<K>) -> Result<(), u64>
     requires { IfSome note.now (λ note. note.class ≤ 9) }
     ensures puts { PutsPieces (listed_pieces (option_to_list note.now))
@@ -132,7 +134,7 @@ pub(crate) fn put_noted<K: Sink>(note: &Option<Note>, lines: &mut Lines<K>) -> R
     }
 }
 
-// Puts the line of a note.
+// Adds the line of a note. Its class must be at most 9.
 fn put_note<O: Outlet>(number: u64, note: &Note, lines: &mut O) -> Result<(), u64>
     requires { note.now.class ≤ 9 }
     ensures puts { Puts (piece number (note_line note.now)) (O.state lines.old) (O.state lines.new) result }
@@ -141,7 +143,7 @@ fn put_note<O: Outlet>(number: u64, note: &Note, lines: &mut O) -> Result<(), u6
     lines.put(number, note_text(note).as_slice())
 }
 
-// Puts the line of what an item changed of a cell.
+// Adds the line of an item that changed the cell from `before` to `after`.
 fn put_change<O: Outlet>(
     number: u64,
     note: &Note,

@@ -1,4 +1,4 @@
-// Lines that are gathered are written where the reading may pause, and before an ending.
+// Flushes buffered lines if the reader pauses, and before an ending.
 ghost use Rattle.std.specs.Prelude.{◌≡◌, ◌≤◌, ◌<◌, ◌+◌, ◌⊎◌, [], IfErr, IfOk, OnErr, OnOk};
 ghost use Rattle.dev_io.specs.Device.{Rose};
 ghost use Rattle.gathered_out.specs.Puts.{BreaksWriting, holding};
@@ -11,9 +11,9 @@ use dev_io::{Sink, Source};
 use gathered_out::Gathered;
 use gpu_capture::EventReader;
 
-/// Writes what is gathered before a read that may have to wait, where all was last written at this place of the reader:
-/// so whenever the next event has to wait for a byte, nothing is gathered. The answer is the place where it was written
-/// last, or the number of the first piece that lacks a byte.
+/// Flushes `gathered` if `reader.pauses(source, since)`. `since` is the byte offset of the reader at the last flush.
+/// Returns the offset at the latest flush. On failure, returns the event number of the first line or record that is
+/// incomplete. Whenever the next event has to wait for a byte, nothing is buffered.
 pub fn write_at_pause<S: Source, K: Sink>(
     reader: &EventReader,
     source: &S,
@@ -38,11 +38,11 @@ pub fn write_at_pause<S: Source, K: Sink>(
     }
 }
 
-/// So many bytes are taken at once at most while a sink waits for what is gathered for it.
+/// A block of words has at most this many bytes. It is read only if fewer bytes were read since the last flush.
 const BLOCK: u32 = 2048;
 
-/// Writes what is gathered before words are taken at once, where as many bytes or more were taken since all was last
-/// written at this place of the reader. The answer is as that of `write_at_pause`.
+/// Flushes `gathered` before a block of words is read, if at least `BLOCK` bytes were read since the last flush.
+/// Argument `since` and results are those of `write_at_pause`.
 pub(crate) fn write_before_words<K: Sink>(
     reader: &EventReader,
     since: u32,
@@ -66,7 +66,8 @@ pub(crate) fn write_before_words<K: Sink>(
     }
 }
 
-/// Ends so, behind what is gathered: that is written before, unless a write has failed already.
+/// Flushes the buffer and returns `ending`. If the flush fails, returns `WriteFailed`. If `ending` is `WriteFailed`,
+/// writes nothing. `ending` must not be a fault of the source.
 pub(crate) fn end_behind<K: Sink>(ending: Ending, gathered: &mut Gathered, out: &mut K) -> Ending
     requires { IsEnding ending × (MayReadFault ending → ⊥) }
     ensures ends { EndsBehind ending gathered.old (K.held out.old) (K.held out.new) result }

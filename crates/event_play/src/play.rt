@@ -1,4 +1,4 @@
-// A capture is played to its end.
+// Plays a capture to its end.
 ghost use Rattle.std.specs.Prelude.{◌≡◌, ◌≤◌, ◌+◌, None, map, OnOk, IfErr};
 ghost use Rattle.dev_io.specs.Device.{Rose};
 ghost use Rattle.gpu_capture.specs.Reader.{CountsFaults, IsReadFault, standing};
@@ -24,21 +24,21 @@ use gpu_taps::Listener;
 use std::sync::ledger::Ledger;
 use vram_store::Steps;
 
-/// The version whose captures are played in the tall profile.
+/// Captures of this version are played in the tall profile (1024 rows of video memory).
 const TALL_VERSION: u8 = 3;
 
 impl Rig {
-    /// Plays a capture to its End, and writes what the mode asks for. It goes on from what the rig has played, and its
-    /// taps are told every note. A capture of version 3 is played in the tall profile.
+    /// Plays a capture to its End, from the machine as it is, and writes the output of `mode`. The taps receive every
+    /// note. A capture of version 3 is played in the tall profile.
     ///
-    /// Lines of items are gathered, up to 4,096 bytes, and written together: where there is no room for one more,
-    /// before a read that may have to wait, and before every ending. So a write that fails may show at a later event,
-    /// and is still that of the event whose lines lack a byte. At most 4,112 bytes of the capture are taken behind that
-    /// event. All else is written where it is due.
+    /// Lines of items are buffered, up to 4,096 bytes. The buffer is flushed if a line does not fit, before a read that
+    /// may wait, after 2,048 bytes of input, and before every ending. A write may fail while a later event is
+    /// processed. The error still names the first event whose lines are incomplete. By then, at most 4,112 bytes after
+    /// that event were read. All other output is written at its event.
     ///
-    /// Done comes only where the capture is whole and all was written. After every ending but `WriteFailed` the rig is
-    /// the state after the events played. Where the line of an item could not be put, the words of its event behind it
-    /// were not fed, and the event does not count; but words that were read at once were all played.
+    /// `Done` means that the capture was whole and all output was written. After every ending except `WriteFailed`, the
+    /// rig is as after the events played. If the line of an item cannot be written, the remaining words of its event
+    /// are not fed, and the event does not count. Words that were read as one block are all played nevertheless.
     pub fn play<S: Source, K: Sink, T: Listener, L: Ledger>(
         &mut self,
         source: &mut S,
@@ -47,7 +47,7 @@ impl Rig {
         taps: &mut Vec<T>,
         steps: &mut Steps<L>,
     ) -> Ending
-        // For every state for which the rig stood, this is how playing the capture from it ends.
+        // For every machine that agrees with the rig, playing the capture from it ends like this.
         ensures ends { (s : Machine) → Stands self.old s → EndsPlay mode (script_of (from_state s self.old.played))
             (streams (S.left source.old) (K.held out.old) (map T.heard taps.old.items) steps.old)
             (at_end (streams (S.left source.new) (K.held out.new) (map T.heard taps.new.items) steps.new) self.new)
@@ -62,8 +62,8 @@ impl Rig {
         self.play_from(&mut reader, source, out, mode, taps, steps)
     }
 
-    /// Plays what is left of a capture behind a reader's place, on any rig, as `play` does with a new reader. Where the
-    /// capture is of version 3, the rig becomes tall if it is not.
+    /// Plays the rest of a capture from the reader's offset on, as `play` does with a new reader. The reader must not
+    /// have stopped. If the capture has version 3, the rig becomes tall.
     pub fn play_from<S: Source, K: Sink, T: Listener, L: Ledger>(
         &mut self,
         reader: &mut EventReader,
@@ -74,7 +74,7 @@ impl Rig {
         steps: &mut Steps<L>,
     ) -> Ending
         requires { reader.old.stop ≡ None }
-        // For every state for which the rig stood, this is how playing ends from it and from the reader's place.
+        // For every machine that agrees with the rig, playing from it and from the reader's offset ends like this.
         ensures ends { (s : Machine) → Stands self.old s
             → EndsPlay mode (script_behind (from_state s self.old.played) reader.old.progress)
             (streams (S.left source.old) (K.held out.old) (map T.heard taps.old.items) steps.old)
@@ -127,7 +127,7 @@ impl Rig {
         }
     }
 
-    // Takes on the profile in which captures of this version are played.
+    // Changes to the tall profile if captures of `version` are played in it.
     fn raise(&mut self, version: u8)
         ensures { (t : Tale) → StandsFor self.old t → StandsFor self.new (raised t version) }
     {
@@ -137,8 +137,9 @@ impl Rig {
     }
 }
 
-// Takes the words that come next at once, unless the mode looks at a cell: where their lines are gathered, those that
-// are at hand.
+// Reads the next words of an open Gp0 record as one block: in mode `List` those at hand, in mode `Pixel` none,
+// otherwise as many as fit. If the reader stops after them, returns the stop; the words read are in `block`
+// nevertheless.
 fn read_words<S: Source>(
     reader: &mut EventReader,
     source: &mut S,

@@ -29,8 +29,7 @@ use std::marker::Model;
 use std::sync::ledger::Ledger;
 use vram_store::Steps;
 
-/// A machine that plays events: the drawing processor, main memory, the transfer that runs, and a count of the events
-/// played.
+/// A machine that plays events: the GPU, main memory, the running transfer, and the number of events played.
 #[derive(Drop)]
 pub struct Rig {
     pub(crate) gpu: Gpu,
@@ -49,8 +48,8 @@ impl Model for Rig {
 }
 
 impl Rig {
-    /// A machine with memories of zeros and the registers after a reset, which has played nothing and in which nothing
-    /// runs. Refused where memory runs out.
+    /// Returns a machine with zeros in both memories, the registers after a reset, no running transfer and no event
+    /// played. Fails if memory runs out.
     pub fn new(alloc: Global) -> Result<Rig, OutOfMemory>
         ensures { IfOk result (λ rig. rig ≡ first_rig) }
     {
@@ -66,8 +65,8 @@ impl Rig {
         })
     }
 
-    /// Puts the rows of the tall profile into video memory: rows 512 to 1023 are zeros. Everything else stays, and
-    /// nothing changes where it is tall already. No step is taken.
+    /// Extends video memory to 1024 rows, the tall profile. Rows 512 to 1023 are 0; everything else stays. Does nothing
+    /// if the height is already 1024. Costs no step.
     pub fn set_tall(&mut self)
         ensures stands { (s : Machine) → Stands self.old s → Stands self.new (tall_machine s) }
         ensures played { self.new.played ≡ self.old.played }
@@ -75,8 +74,8 @@ impl Rig {
         self.gpu.set_tall();
     }
 
-    /// Plays one event. The answer is the word read for Read and Stat, and None for all other events. After a fault the
-    /// machine, the taps and the steps are as they were.
+    /// Plays one event. Returns the word read for Read and Stat, and `None` for all other events. After a fault, the
+    /// machine, the taps and the store steps are unchanged.
     pub fn event<T: Listener, L: Ledger>(
         &mut self,
         event: &Event,
@@ -117,7 +116,7 @@ impl Rig {
         }
     }
 
-    /// What an event asks of the machine, or why it is refused. Nothing changes.
+    /// Returns the operation of an event, or its fault. Changes nothing.
     pub fn asked(&mut self, event: &Event) -> Result<Work, EventFault>
         ensures value { result ≡ work_of self.old.ram self.old.running event.now }
         ensures bounds { IfOk result IsWork }
@@ -126,9 +125,9 @@ impl Rig {
         judge(event, &mut self.walk, &self.ram, self.running)
     }
 
-    /// Does a work in the event of this number, and puts the lines of its notes as they come, if the mode asks for
-    /// them. Where one can't be put, the words behind its item are not fed, and the answer is the number of the first
-    /// event whose lines lack a byte.
+    /// Performs an operation in event `within.number`, and adds the lines of its items that the mode asks for. Returns
+    /// the shown word, if any. If a line cannot be written, feeds no further word, and returns the number of the first
+    /// event whose lines are incomplete. `work` must be in its bounds, as the operation of an event is.
     pub(crate) fn perform<O: Outlet, T: Listener, L: Ledger>(
         &mut self,
         within: Within,
@@ -188,7 +187,7 @@ impl Rig {
         }
     }
 
-    /// The number of the next event.
+    /// Returns the number of the next event, at most 2^64 - 1.
     pub(crate) fn next_number(&self) -> u64
         ensures { result ≡ next_number self.now.played }
     {

@@ -1,4 +1,4 @@
-// The parts of a rig's state, and rigs that are put together from parts.
+// The parts of a rig's state, and rigs that are built from parts.
 ghost use Rattle.std.specs.Prelude.{◌≡◌, ◌<◌, ◌+◌, ◌*◌, ◌%◌, length};
 ghost use Rattle.gp0_words.specs.Next.{IsPending};
 ghost use Rattle.gpu_core.specs.Kept.{kept_of, kept_with, state_with, IsLinked, IsOpen, IsSet};
@@ -18,28 +18,28 @@ use vram_copy::Transfer;
 use vram_store::Steps;
 
 impl Rig {
-    /// How many events were played. It stays at 2^64 - 1 once there.
+    /// Returns the number of events played, at most 2^64 - 1.
     pub fn played(&self) -> u64
         ensures { result ≡ self.now.played }
     {
         self.played
     }
 
-    /// The drawing processor.
+    /// Returns the GPU.
     pub fn gpu(&self) -> &Gpu
         ensures { result.now ≡ self.now.gpu }
     {
         &self.gpu
     }
 
-    /// Main memory.
+    /// Returns main memory.
     pub fn ram(&self) -> &Ram
         ensures { result.now ≡ self.now.ram }
     {
         &self.ram
     }
 
-    /// The transfer that runs.
+    /// Returns the running transfer.
     pub fn running(&self) -> Run
         ensures value { result ≡ self.now.running }
         ensures bounds { IsRun result }
@@ -47,7 +47,7 @@ impl Rig {
         self.running
     }
 
-    /// The open load. None exactly where none is open.
+    /// Returns the open load, or `None` if none is open.
     pub fn load_job(&self) -> Option<Transfer>
         ensures value { result ≡ self.now.gpu.parts.load }
         ensures bounds { IsOpen self.now.gpu.parts.regs.height result }
@@ -55,7 +55,7 @@ impl Rig {
         self.gpu.load_job()
     }
 
-    /// The open store. None exactly where none is open.
+    /// Returns the open store, or `None` if none is open.
     pub fn store_job(&self) -> Option<Transfer>
         ensures value { result ≡ self.now.gpu.parts.store }
         ensures bounds { IsOpen self.now.gpu.parts.regs.height result }
@@ -63,7 +63,7 @@ impl Rig {
         self.gpu.store_job()
     }
 
-    /// What is pending of the words of GP0. Data words are wanted exactly where a load is open, and as many as it has
+    /// Returns what is pending in the words of GP0. Data words are pending exactly if a load is open, as many as it has
     /// left.
     pub fn pending(&self) -> Pending
         ensures value { result ≡ self.now.gpu.pending }
@@ -73,8 +73,9 @@ impl Rig {
         self.gpu.pending()
     }
 
-    /// Puts registers, what is pending, and open transfers in place of its own. All else stays. There are words of GP0
-    /// that leave what is pending, so the rig stands for a machine.
+    /// Replaces the registers, what is pending, and the open transfers; everything else stays. The new height must be
+    /// that of video memory. All values must be in their bounds. Data words must be pending exactly if `load` is open,
+    /// as many as it has left. The new state is that of a machine, since some words of GP0 leave `pending`.
     pub fn set_state(
         &mut self,
         regs: Regs,
@@ -93,7 +94,8 @@ impl Rig {
         self.gpu.set_state(regs, pending, load, store);
     }
 
-    /// Sets sixteen cells of video memory, whatever the mask setting is. All else stays. One store step.
+    /// Sets sixteen cells from (`x`, `y`) on, whatever the mask setting is; everything else stays. `x` is a multiple of
+    /// 16 below 1024, and `y` is below the height. Costs one store step.
     pub fn set_cells<L: Ledger>(&mut self, x: u16, y: u16, lanes: u16x16, steps: &mut Steps<L>)
         requires lanes { length lanes ≡ 16 }
         requires chunk { x % 16 ≡ 0 }
@@ -107,7 +109,8 @@ impl Rig {
         self.gpu.set_cells(x, y, lanes, steps);
     }
 
-    /// Puts a number of events played, and a transfer that runs, in place of its own. All else stays.
+    /// Replaces the number of events played and the running transfer. Everything else stays. `run` must be in its
+    /// bounds: word addresses of main memory, 1 to 524,288 words left, blocks of 1 to 10000h words.
     pub fn set_run(&mut self, played: u64, run: Run)
         requires { IsRun run }
         ensures { self.new ≡ record self.old { running = run; played = played } }
@@ -116,7 +119,7 @@ impl Rig {
         self.played = played;
     }
 
-    /// Writes the word of main memory at an address, which is a multiple of 4 below 200000h. All else stays.
+    /// Sets the word of main memory at byte address `address`, a multiple of 4 below 200000h. Everything else stays.
     pub fn set_word(&mut self, address: u32, word: u32)
         requires { IsWordAddress address }
         ensures word { self.new ≡ record self.old { ram = set self.old.ram address word } }

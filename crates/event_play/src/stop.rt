@@ -1,4 +1,4 @@
-// Playing ends where the reader stops.
+// Ends playing when the reader stops.
 ghost use Rattle.std.specs.Prelude.{◌≡◌, ◌≤◌, map};
 ghost use Rattle.dev_io.specs.Device.{Rose};
 ghost use Rattle.gpu_capture.specs.Reader.{IsReadFault};
@@ -20,7 +20,7 @@ use std::sync::ledger::Ledger;
 use vram_store::Steps;
 
 impl Rig {
-    /// Ends playing at a stop of the reader: what is gathered is written before.
+    /// Flushes the buffer, then ends playing at a stop of the reader. If the stop is `End`, writes the final output.
     pub(crate) fn end_reading<K: Sink, T: Listener, L: Ledger>(
         &self,
         stop: InMode<Stop>,
@@ -50,7 +50,7 @@ impl Rig {
         }
     }
 
-    // Ends playing at the End where nothing is gathered: what is due behind the last event is written.
+    // Ends playing at End with an empty buffer: writes the final output, unless the mode lacks its picture.
     fn finish<K: Sink, T: Listener, L: Ledger>(
         &self,
         out: &mut K,

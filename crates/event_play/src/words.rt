@@ -1,4 +1,4 @@
-// The words that a work feeds, one after another.
+// The words that an operation feeds, one after another.
 ghost use Rattle.std.specs.Prelude.{◌≡◌, ◌≤◌, ◌^◌, ◌++◌, ◌∷◌, [], MatchOption};
 ghost use Rattle.list_dma.specs.Node.{next_of, node_words};
 ghost use Rattle.event_play.specs.Block.{block_words, IsBlock};
@@ -12,8 +12,8 @@ use list_dma::{WALK_LIMIT, node_at};
 use ot_clear_dma::Ram;
 use std::marker::Model;
 
-/// The words that a work feeds, one after another: a word of the processor, a block, a node or a list. They are read
-/// when they are taken, so main memory is lent to the cursor. Contracts see the list of the words that are left.
+/// Iterates over the words that an operation feeds: one word, a block, a node or a list. Borrows main memory and reads
+/// each word when `next` returns it. In contracts, a cursor is the list of remaining words.
 #[derive(Drop)]
 pub struct WordCursor<'a> {
     ram: &'a Ram,
@@ -34,31 +34,31 @@ impl<'a> Model for WordCursor<'a> {
     ghost invariant = { λ c. IsBlock c.block × (c.at ≤ c.block.n) };
 }
 
-// What comes behind a block.
+// What follows a block.
 #[derive(Clone, Copy)]
 enum Behind {
     Nothing,
-    /// A word that the processor writes.
+    /// A word that the CPU writes.
     Word { word: u32 },
-    /// The nodes of a list from an address on, so many at the most.
+    /// The first nodes of a list.
     Nodes { list: NodeList },
 }
 
-// The first nodes of a list: where it starts, and how many at the most.
+// The first nodes of a list: its start address, and the most nodes to visit.
 #[derive(Clone, Copy)]
 struct NodeList {
     start: u32,
     limit: u32,
 }
 
-// The words of a node, and what comes behind it.
+// The words of a node, and what follows it.
 #[derive(Clone, Copy)]
 struct Node {
     words: Block,
     behind: Behind,
 }
 
-// No word of main memory.
+// The empty block.
 const NO_BLOCK: Block = Block {
     at: 0,
     n: 0,
@@ -66,7 +66,8 @@ const NO_BLOCK: Block = Block {
 };
 
 impl<'a> WordCursor<'a> {
-    /// These words, none of them taken yet.
+    /// Returns a cursor over all of these words. A block must have at most 524,288 words, and the address of a node
+    /// must be at most 200000h.
     #[tactic(auto, unfolding(list_dma::specs::Walk::list_words, list_dma::specs::Walk::walk_of))]
     pub fn new(ram: &'a Ram, words: Words) -> WordCursor<'a>
         requires { AreWords words }
@@ -86,7 +87,7 @@ impl<'a> WordCursor<'a> {
         }
     }
 
-    // The words of a block, and of what comes behind it.
+    // Returns a cursor over a block and what follows it.
     fn of(ram: &'a Ram, block: Block, behind: Behind) -> WordCursor<'a>
         requires { IsBlock block }
         ensures { result ≡ block_words ram.now block ++ behind_words ram.now behind }
@@ -99,7 +100,7 @@ impl<'a> WordCursor<'a> {
         }
     }
 
-    /// Takes the next word. None comes exactly where none is left.
+    /// Returns the next word, or `None` if no word is left.
     #[inline(always)]
     pub fn next(&mut self) -> Option<u32>
         ensures { MatchOption result (self.old ≡ []) (λ word. self.old ≡ word ∷ self.new) }
@@ -128,7 +129,7 @@ impl<'a> WordCursor<'a> {
     }
 }
 
-// The words of a node, as a block.
+// Returns the words of a node as a block. `node`: byte address of its header.
 fn block_at(ram: &Ram, node: u32) -> Block
     requires { node ≤ 2 ^ 21 }
     ensures words { block_words ram.now result ≡ node_words ram.now node }
@@ -141,14 +142,14 @@ fn block_at(ram: &Ram, node: u32) -> Block
     }
 }
 
-// The address in the header of a node.
+// Returns the next address in the header of a node.
 fn next_address(ram: &Ram, node: u32) -> u32
     ensures { result ≡ next_of ram.now node }
 {
     ram.get(node) & 0xff_ffff
 }
 
-// The first node of a list that has words. None comes where no node has any.
+// Returns the first node of a list that has words, and what follows it. Returns `None` if no node has any.
 fn next_node(ram: &Ram, list: NodeList) -> Option<Node>
     ensures { MatchOption result (nodes_words ram.now list ≡ []) (IsNextNode ram.now list) }
 {

@@ -1,40 +1,40 @@
-// What an event asks of the machine.
+// The operation of an event.
 use crate::block::Block;
 use list_dma::Run;
 
-/// Words that go to GP0.
+/// Words that are fed to GP0.
 #[derive(Clone, Copy, Debug, PartialEq, Eq)]
 pub enum Words {
-    /// One that the processor writes.
+    /// One word that the CPU writes.
     One { word: u32 },
-    /// Those of a block of main memory.
+    /// The words of a block of main memory.
     Block { block: Block },
-    /// Those of a node of a list.
+    /// The words of one node of a list. `node`: byte address of its header.
     Node { node: u32 },
-    /// Those of a whole list, node after node.
+    /// The words of a whole list, node after node. `start`: address of its first node.
     List { start: u32 },
 }
 
-/// What an event asks of the machine.
+/// The operation of an event.
 #[derive(Clone, Copy, Debug, PartialEq, Eq)]
 pub enum Work {
     Nothing,
-    /// A word is put into main memory.
+    /// Stores a word in main memory.
     Put { address: u32, word: u32 },
-    /// Words go to GP0, and then `next` runs.
+    /// Feeds words to GP0. Then `next` is the running transfer.
     Feed { words: Words, next: Run },
-    /// Words that are read go to a block of main memory, and then `next` runs.
+    /// Reads words from the GPU into a block of main memory. Then `next` is the running transfer.
     Take { block: Block, next: Run },
-    /// A word goes to GP1.
+    /// Writes a word to GP1.
     Control { word: u32 },
-    /// A word is read and shown.
+    /// Reads a word and shows it.
     Read,
-    /// A word is read and not shown.
+    /// Reads a word and does not show it.
     Skip,
-    /// The status word is shown.
+    /// Shows the status word.
     Stat,
-    /// An ordering table of `n` words is cleared.
+    /// Clears an ordering table of `n` words.
     Clear { madr: u32, n: u32 },
-    /// From now on `next` runs.
+    /// Makes `next` the running transfer.
     Begin { next: Run },
 }
