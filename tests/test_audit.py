@@ -83,7 +83,7 @@ class Audits(unittest.TestCase):
         return self.program(name, PLAYER % (sys.executable, TOP, rows, step))
 
     def audit(self, capture, theirs, *more):
-        """The status, and the lines behind the head of the table."""
+        """The status, and the lines after the head of the table."""
         path = os.path.join(self.folder, 'a.capture')
         capture.save(path)
         out = io.StringIO()

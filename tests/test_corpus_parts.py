@@ -35,7 +35,7 @@ class Parts(Corpus):
     def test_glue(self):
         cases = [('play', ('00000001\nstatus 14802000\n', 'status 14802001\n'), '00000001\nstatus 14802001\n'),
                  ('list', ('1 nop 00000000 -\n', '2 nop 00000000 -\n'), '1 nop 00000000 -\n2 nop 00000000 -\n'),
-                 # The frame at the end is the one behind the last event once more.
+                 # The frame at the end is the one after the last event once more.
                  ('sums', ('3 2 1 aa\n3 2 1 aa\nvram bb\n', '4 2 1 cc\nvram dd\n'), '3 2 1 aa\n4 2 1 cc\nvram dd\n'),
                  # Nothing is shown at the end: the last frame is one of an earlier event.
                  ('sums', ('1 2 1 aa\n3 2 1 aa\nvram bb\n', 'vram dd\n'), '1 2 1 aa\n3 2 1 aa\nvram dd\n'),

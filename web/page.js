@@ -1,4 +1,4 @@
-// The page: opens a capture, shows a picture behind each flip, and video memory.
+// The page: opens a capture, shows a picture after each flip, and video memory.
 'use strict';
 
 const element = id => document.getElementById(id);
@@ -54,7 +54,7 @@ function toggle() {
     timer = setInterval(() => step(1), 1000 / Number(element('rate').value));
 }
 
-// The pictures behind each flip and at the end, up to where the capture is refused.
+// The pictures after each flip and at the end, up to where the capture is refused.
 function filmOf(bytes) {
     const found = { frames: [], vram: null, trouble: '' };
     const add = machine => {

@@ -87,7 +87,7 @@ class Refusals(unittest.TestCase):
         self.assertEqual(self.library.new(self.gpu), OPEN)
 
     def test_rooms(self):
-        """One byte less than is due is too little; what is due is enough, and no byte behind it is written."""
+        """One byte less than the output is too little. Exactly its length is enough, and no byte after it is written."""
         dues = {'vram': 1048576, 'picture': len('P6\n320 240\n255\n') + 3 * 320 * 240,
                 'picture_rgba': 4 * 320 * 240, 'save': len(self.before)}
         for name, due in dues.items():
