@@ -13,7 +13,7 @@ use gp0_packets::Packet;
 use gp1_status::Regs;
 use px_num::Box2;
 
-// The smallest box that has two others.
+// Returns the smallest box that contains both boxes.
 #[tactic(auto, unfolding(crate::specs::Areas::hull))]
 fn hull(a: &Box2, b: &Box2) -> Box2
     ensures { result ≡ hull a.now b.now }
@@ -23,7 +23,7 @@ fn hull(a: &Box2, b: &Box2) -> Box2
     box_from(&first, &last)
 }
 
-/// The hull of two boxes, either of which may be none.
+/// Returns the hull of two boxes. If one is `None`, returns the other.
 pub(crate) fn joined(a: Option<Box2>, b: Option<Box2>) -> Option<Box2>
     ensures { result ≡ joined a b }
 {
@@ -50,7 +50,7 @@ fn polygon_area(regs: &Regs, polygon: &Polygon) -> Option<Box2>
     }
 }
 
-// The box of w by h cells from (x, y) on. None where there is no cell.
+// Returns the box of `w` by `h` cells from (`x`, `y`) on, or `None` if it has no cell.
 #[tactic(auto, unfolding(crate::specs::Areas::moved_box))]
 fn moved_box(x: u16, y: u16, w: u16, h: u16) -> Option<Box2>
     ensures { result ≡ moved_box x y w h }
@@ -67,11 +67,15 @@ fn moved_box(x: u16, y: u16, w: u16, h: u16) -> Option<Box2>
     }
 }
 
-/// The area of a packet: the box of the cells that it may change, whose corners are not wrapped.
+/// Returns the area of a packet: the box of the cells that it may change, or of those that a store reads. Corners are
+/// not wrapped.
 ///
-/// A polygon has the smallest box that holds those of its triangles, a line that of its segment and a
-/// rectangle its own, each cut by the drawing area; a fill, load or store has its rectangle, and a copy the
-/// target's. None where no cell is left, where the size rule refuses what is drawn, and for all other packets.
+/// The box of a line or rectangle is clipped to the drawing area, and so are those of a polygon's triangles. The area
+/// of a polygon is the smallest box that contains them. A triangle of area 0 has no box, nor has what the size rule
+/// refuses. A fill, load or store has its own rectangle, and a copy its target. Returns `None` for other packets, and
+/// if no cell is left.
+///
+/// The packet's fields must be in the ranges that `gp0_packets::decode` returns.
 #[tactic(auto, unfolding(crate::specs::Areas::area_of))]
 pub fn area_of(regs: &Regs, packet: &Packet) -> Option<Box2>
     requires { IsInRange regs.now.height packet.now }

@@ -1,4 +1,4 @@
-// Rectangles in a block of their cells.
+// Rectangles, clipped to the cells that are drawn.
 ghost use Rattle.std.specs.Prelude.{◌≡◌, ◌≤◌, ◌<◌, ◌+◌, ◌-◌, Some, None, true, false};
 ghost use Rattle.vram_store.specs.Vram.{height_of};
 ghost use Rattle.span_lanes.specs.ClipRect.{IsClipRect};
@@ -18,19 +18,19 @@ use span_lanes::{
 use std::sync::ledger::Ledger;
 use vram_store::{Steps, Vram};
 
-/// A rectangle, of which the cells of a block are drawn.
+/// A rectangle, with the clip rectangle of its drawn cells.
 #[derive(Clone, Copy)]
 pub(crate) struct ClippedRectangle<'a> {
-    /// What it is drawn with.
+    /// What the cells are drawn with.
     pub(crate) rectangle_setup: &'a RectangleSetup,
-    /// All its cells.
+    /// All cells of the rectangle.
     pub(crate) extent: &'a Extent,
-    /// Those that are drawn.
+    /// The cells that are drawn.
     pub(crate) clip_rect: &'a ClipRect,
 }
 
 impl ClippedRectangle<'_> {
-    // The first row of the block, and its texels.
+    // Returns the first row of the clip rectangle, with the row of its texels.
     #[inline(always)]
     fn first_row(&self) -> FirstRow
         requires extent { IsExtent self.now.extent.now }
@@ -46,7 +46,7 @@ impl ClippedRectangle<'_> {
         }
     }
 
-    // The texels of the block, row by row.
+    // Returns the texels of the clip rectangle, row by row.
     #[inline(always)]
     fn texels(&self, texture: &Texture) -> TexelRows
         requires extent { IsExtent self.now.extent.now }
@@ -65,7 +65,8 @@ impl ClippedRectangle<'_> {
         }
     }
 
-    // Draws the texels with a pen for them.
+    // Draws all rows with `drawer`, which must have the texels of the clip rectangle. Its cached palette, if any, must
+    // equal the one in video memory.
     #[inline(always)]
     fn draw_by<P: TexelRowDrawer, L: Ledger>(
         &self,
@@ -90,7 +91,7 @@ impl ClippedRectangle<'_> {
         draw_rows(vram, &mut rows, &mut drawer, steps);
     }
 
-    // Texels whose palette is coloured once, by whether they are drawn as they are, and pixels stored as they are.
+    // Draws rows whose palette can be modulated once, by one of four loops: raw or modulated, opaque or not.
     #[inline(never)]
     fn draw_cached<L: Ledger>(&self, rows: &TexelRows, vram: &mut Vram, steps: &mut Steps<L>)
         requires can { CanDrawRectangle (height_of vram.old) self.now }
@@ -117,7 +118,7 @@ impl ClippedRectangle<'_> {
         }
     }
 
-    // Texels of which each row is looked at by itself.
+    // Draws any rows of texels. Each row is tested by itself.
     #[inline(never)]
     fn draw_each<L: Ledger>(&self, rows: &TexelRows, vram: &mut Vram, steps: &mut Steps<L>)
         requires can { CanDrawRectangle (height_of vram.old) self.now }
@@ -128,7 +129,7 @@ impl ClippedRectangle<'_> {
         self.draw_by(AnyRowsDrawer::new(rows), vram, steps);
     }
 
-    // The colour of a rectangle without texture.
+    // Draws a rectangle without a texture.
     fn draw_flat<L: Ledger>(&self, vram: &mut Vram, steps: &mut Steps<L>)
         requires can { CanDrawRectangle (height_of vram.old) self.now }
         requires flat { self.now.rectangle_setup.now.texture ≡ None }
@@ -148,7 +149,7 @@ impl ClippedRectangle<'_> {
         draw_rows(vram, &mut rows, &mut drawer, steps);
     }
 
-    /// Draws the cells of the block.
+    /// Draws the cells of the clip rectangle.
     pub(crate) fn draw<L: Ledger>(&self, vram: &mut Vram, steps: &mut Steps<L>)
         requires { CanDrawRectangle (height_of vram.old) self.now }
         ensures { DrawsRectangle self.now

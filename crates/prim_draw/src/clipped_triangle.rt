@@ -1,4 +1,4 @@
-// Triangles with a texture in the block of their box.
+// Textured triangles, clipped to their box.
 ghost use Rattle.std.specs.Prelude.{IfSome};
 ghost use Rattle.vram_store.specs.Vram.{height_of};
 ghost use Rattle.span_lanes.specs.Shade.{texture_of};
@@ -20,7 +20,7 @@ use span_lanes::{
 use std::sync::ledger::Ledger;
 use vram_store::{Steps, Vram};
 
-/// What draws the rows of a block.
+/// The drawer of a textured triangle's rows in a clip rectangle.
 #[derive(Drop)]
 struct TriangleRowDrawer<P> {
     drawer: P,
@@ -51,19 +51,19 @@ impl<P: BlockRowDrawer> RowDrawer for TriangleRowDrawer<P> {
     }
 }
 
-// The rows of a triangle in a box, what they are drawn with, and the way in which they are drawn in the box's block.
+// A textured triangle in a box, with its draw state and its row method.
 #[derive(Clone, Copy)]
 struct ClippedTriangle<'a> {
     tri: &'a Tri,
     clip: &'a Box2,
-    // The triangle that the texture is laid over.
+    // The triangle that determines texel coordinates and colours.
     own: &'a Tri,
     texture: &'a Texture,
     brush: &'a Brush,
     method: RowMethod,
 }
 
-// Each way has a function of its own, so that room is made for its pen alone.
+// Each method has its own function, so that stack is reserved only for its own drawer.
 impl ClippedTriangle<'_> {
     #[inline(always)]
     fn kept<L: Ledger>(&self, color: u32, vram: &mut Vram, steps: &mut Steps<L>)
@@ -132,7 +132,8 @@ impl ClippedTriangle<'_> {
     }
 }
 
-// How the rows of a triangle in a box are drawn, if they are in a block that is known to lie apart.
+// Returns a textured triangle in a box with its row method. Returns `None` without a texture, or if spans in the box
+// may have a hazard. The box must have a cell and be within 1024 columns and rows.
 #[inline(always)]
 fn clipped_triangle<'a>(
     state: &'a DrawState,
@@ -157,7 +158,7 @@ fn clipped_triangle<'a>(
     })
 }
 
-// The rows of a triangle that has no texture, or no block that is known to lie apart.
+// Draws the rows of a triangle that has no texture, or whose spans may have a hazard.
 #[inline(always)]
 fn draw_any<L: Ledger>(
     state: &DrawState,
@@ -174,7 +175,8 @@ fn draw_any<L: Ledger>(
     draw_rows(vram, &mut rows_of(tri, clip), &mut drawer, steps);
 }
 
-/// Draws the cells of a box that are inside of a triangle.
+/// Draws the cells of the box `clip` that are inside a triangle. The box must be in video memory and in the triangle's
+/// bounding box.
 #[inline(always)]
 pub(crate) fn draw_with_state<L: Ledger>(
     state: &DrawState,

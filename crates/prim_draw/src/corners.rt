@@ -8,7 +8,7 @@ use gp1_status::Regs;
 use px_num::Vertex;
 use std::marker::Model;
 
-/// The vertices of a triangle in their order, with the offset added.
+/// The vertices of a triangle in packet order, with the drawing offset added.
 #[derive(Drop)]
 pub(crate) struct Corners {
     pub(crate) first: Vertex,
@@ -24,7 +24,7 @@ impl Model for Corners {
     ghost view = { λ c. corners c.first c.second c.third };
 }
 
-/// Three vertices of a packet, with the offset added.
+/// Returns three vertices of a packet, with the drawing offset added.
 #[inline(always)]
 pub(crate) fn placed_corners(regs: &Regs, a: &Vertex, b: &Vertex, c: &Vertex) -> Corners
     requires a { IsPlace a.now.x a.now.y }

@@ -1,8 +1,9 @@
 //! Primitives: triangles, quads, rectangles and segments, drawn into video memory.
 //!
-//! A primitive is its pixels one after another: the cells of its box that it draws, rows from the top and
-//! each from left to right, or the points of a segment in their order. Every pixel reads video memory as it
-//! is then, also where the primitive samples what it has drawn itself (our own rule).
+//! The pixels of a primitive are drawn one after another. Triangles and rectangles are drawn row by row from the top,
+//! and each row from left to right. A quad is two triangles, one after the other. The points of a segment are drawn in
+//! their order. Every pixel reads video memory as it is when that pixel is drawn (our own rule). This also holds if the
+//! primitive samples what it has drawn itself.
 #![tactic(auto)]
 
 mod area;

@@ -1,4 +1,4 @@
-// Segments by points.
+// Segments, point by point.
 ghost use Rattle.std.specs.Prelude.{◌≡◌, ◌≤◌, ◌<◌, ◌+◌, ◌*◌, ℕ, IfSome, length, true, if◌then◌else◌};
 ghost use Rattle.vram_store.specs.Vram.{height_of};
 ghost use Rattle.gp0_packets.specs.Ranges.{IsPlace};
@@ -20,7 +20,7 @@ use std::marker::Model;
 use std::sync::ledger::Ledger;
 use vram_store::{Steps, Vram};
 
-// Draws a point that lies in the drawing area.
+// Draws a point, which must be in the drawing area. Costs at most two steps.
 fn draw_inside<L: Ledger>(
     vram: &mut Vram,
     area: &Box2,
@@ -42,7 +42,7 @@ fn draw_inside<L: Ledger>(
     plot_color(vram, brush, to, point.color, steps);
 }
 
-// Draws a point where it lies in the drawing area.
+// Draws a point if it is in the drawing area. Costs at most two steps, and none outside it.
 fn draw_point<L: Ledger>(
     vram: &mut Vram,
     area: &Box2,
@@ -61,7 +61,7 @@ fn draw_point<L: Ledger>(
     }
 }
 
-// Whether both ends of a segment lie in a box, and so all its points.
+// Returns whether both ends of a segment are in a box. Then all its points are.
 fn lies_in(b: &Box2, segment: &Segment) -> bool
     ensures first { result ≡ true → is_in b.now segment.now.first ≡ true }
     ensures second { result ≡ true → is_in b.now segment.now.second ≡ true }
@@ -69,7 +69,8 @@ fn lies_in(b: &Box2, segment: &Segment) -> bool
     is_in(b, &segment.first()) && is_in(b, &segment.second())
 }
 
-// The halfword that each point of a segment is drawn as. None where that may differ, or a point may lie outside.
+// Returns the halfword that each point of a segment becomes. Returns `None` if points may become different halfwords or
+// be outside the drawing area.
 fn point_color_for(area: &Box2, brush: &Brush, segment: &Segment) -> Option<u16>
     requires { brush.now.mode ≤ 3 }
     ensures { IfSome result (λ point_color. ArePointsColored area.now brush.now segment.now point_color) }
@@ -84,7 +85,7 @@ fn point_color_for(area: &Box2, brush: &Brush, segment: &Segment) -> Option<u16>
     }
 }
 
-// Writes the points of a segment as one halfword.
+// Writes `point_color` to each point of a segment. All must be in video memory. Costs one step per point.
 fn put_points<L: Ledger>(vram: &mut Vram, segment: &Segment, point_color: u16, steps: &mut Steps<L>)
     requires in_memory { (k : ℕ) → k < len_of segment.now
         → IsInMemory (height_of vram.old) (point_of segment.now k) }
@@ -100,7 +101,7 @@ fn put_points<L: Ledger>(vram: &mut Vram, segment: &Segment, point_color: u16, s
     }
 }
 
-// Draws the points of a segment in their order.
+// Draws the points of a segment that are in the drawing area, in their order. Costs at most two steps for each of them.
 fn draw_points<L: Ledger>(
     vram: &mut Vram,
     area: &Box2,
@@ -124,7 +125,7 @@ fn draw_points<L: Ledger>(
     }
 }
 
-/// The ends of a segment in their order, with the offset added.
+/// The ends of a segment in packet order, with the drawing offset added.
 #[derive(Drop)]
 pub(crate) struct Ends {
     first: Vertex,
@@ -139,7 +140,7 @@ impl Model for Ends {
     ghost view = { λ s. ends s.first s.second };
 }
 
-/// Two vertices of a packet, with the offset added.
+/// Returns two vertices of a packet, with the drawing offset added.
 pub(crate) fn placed_ends(regs: &Regs, a: &Vertex, b: &Vertex) -> Ends
     requires a { IsPlace a.now.x a.now.y }
     requires b { IsPlace b.now.x b.now.y }
@@ -151,7 +152,7 @@ pub(crate) fn placed_ends(regs: &Regs, a: &Vertex, b: &Vertex) -> Ends
     }
 }
 
-/// Draws a segment, and answers its box as [`segment_box`] does.
+/// Draws a segment and returns its box, as [`segment_box`] does.
 #[tactic(auto, unfolding(crate::specs::Lines::segment_box))]
 pub(crate) fn draw_segment<L: Ledger>(
     vram: &mut Vram,
@@ -184,7 +185,8 @@ fn ends_box(ends: &Ends) -> Box2
     box_from(&least(&a, &b), &greatest(&a, &b))
 }
 
-/// The box of a segment in the drawing area. None where it has no cell or the size rule refuses the segment.
+/// Returns the box of a segment in the drawing area. Returns `None` if no cell of the box is in it or the size rule
+/// refuses the segment.
 #[tactic(auto, unfolding(crate::specs::Lines::segment_box))]
 pub(crate) fn segment_box(regs: &Regs, ends: &Ends) -> Option<Box2>
     ensures value { result ≡ segment_box regs.now ends.now }

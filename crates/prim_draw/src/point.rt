@@ -34,7 +34,7 @@ fn blend_if(brush: &Brush, back: u16, front: u16) -> u16
     }
 }
 
-// The pixel of a colour over a cell that holds this halfword.
+// Returns the pixel of a colour over a cell with the value `back`. `shift` is the dither offset.
 #[tactic(auto, unfolding(span_lanes::specs::Shade::flat_pixel))]
 fn pixel_over(brush: &Brush, color: u32, shift: i8, back: u16) -> u16
     requires mode { brush.now.mode ≤ 3 }
@@ -44,7 +44,8 @@ fn pixel_over(brush: &Brush, color: u32, shift: i8, back: u16) -> u16
     pack(blend_if(brush, back, tone(color, shift)), false, false)
 }
 
-// What a colour writes over a cell that holds this halfword. None where the cell stays.
+// Returns the halfword that a colour writes over a cell with the value `back`, or `None` if the mask setting protects
+// the cell.
 fn written_over(mask: u8, back: u16, color: u16) -> Option<u16>
     ensures { result ≡ written_over mask back (Some color) }
 {
@@ -55,7 +56,7 @@ fn written_over(mask: u8, back: u16, color: u16) -> Option<u16>
     }
 }
 
-// Plots a cell in one colour after a look at it.
+// Plots a colour at a cell, which is read first. Costs at most two steps.
 fn plot_seen<L: Ledger>(vram: &mut Vram, brush: &Brush, to: Cell, color: u32, steps: &mut Steps<L>)
     requires in_row { to.x < 1024 }
     requires in_height { to.y < height_of vram.old }
@@ -72,7 +73,7 @@ fn plot_seen<L: Ledger>(vram: &mut Vram, brush: &Brush, to: Cell, color: u32, st
     }
 }
 
-// Plots a cell in one colour where neither the pixel nor the mask setting asks what it holds.
+// Plots a colour at a cell without reading it. The pixel must be neither blended nor tested. Costs at most two steps.
 #[tactic(auto, unfolding(vram_store::specs::Plot::plot, vram_store::specs::Plot::is_kept))]
 fn plot_unseen<L: Ledger>(
     vram: &mut Vram,
@@ -95,7 +96,7 @@ fn plot_unseen<L: Ledger>(
     vram.put(to.x, to.y, force(brush.mask, pixel), steps);
 }
 
-/// Plots a cell in one colour. At most two steps.
+/// Plots a colour at a cell of video memory. Costs at most two steps.
 pub(crate) fn plot_color<L: Ledger>(
     vram: &mut Vram,
     brush: &Brush,
@@ -119,7 +120,7 @@ pub(crate) fn plot_color<L: Ledger>(
     }
 }
 
-// Whether plotting asks for the cell: for what it holds or for its place.
+// Returns whether the plotted halfword may depend on the cell's value or position: it is blended, dithered or tested.
 fn asks_for_cell(brush: &Brush) -> bool
     ensures opaque { result ≡ false → brush.now.semi ≡ false }
     ensures undithered { result ≡ false → brush.now.dither ≡ false }
@@ -128,7 +129,7 @@ fn asks_for_cell(brush: &Brush) -> bool
     brush.semi || brush.dither || tests(brush.mask)
 }
 
-/// The halfword that a colour is plotted as. None where that may hang on the cell.
+/// Returns the halfword that a colour becomes in every cell, or `None` if it may depend on the cell.
 pub(crate) fn point_color_of(brush: &Brush, color: u32) -> Option<u16>
     requires { brush.now.mode ≤ 3 }
     ensures { IfSome result (λ point_color. IsPointColor brush.now color point_color) }

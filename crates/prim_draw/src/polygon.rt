@@ -1,10 +1,10 @@
 // Polygons.
 use px_num::Vertex;
 
-/// A polygon by its vertices, without the offset. One of three vertices has its third a second time.
+/// A polygon by its vertices, without the drawing offset. With three vertices, the fourth equals the third.
 #[derive(Clone, Copy)]
 pub(crate) struct Polygon {
-    /// Whether it has four vertices: then it is the triangles 1-2-3 and 2-3-4.
+    /// Whether it has four vertices. Then it is the triangles 1-2-3 and 2-3-4.
     pub(crate) four: bool,
     /// The first vertex.
     pub(crate) a: Vertex,

@@ -19,7 +19,7 @@ use px_num::Box2;
 use std::sync::ledger::Ledger;
 use vram_store::{Steps, Vram};
 
-// Draws a triangle, or a quad as two, and answers its area.
+// Draws a polygon, a quad as two triangles, and returns its area.
 #[tactic(auto, unfolding(crate::specs::Triangles::drawn_polygon, crate::specs::Costs::polygon_cost, crate::specs::Areas::polygon_area))]
 #[inline(always)]
 fn draw_polygon<L: Ledger>(
@@ -46,15 +46,15 @@ fn draw_polygon<L: Ledger>(
     }
 }
 
-/// Draws a polygon, a line or a rectangle. Any other packet changes nothing. The answer is the packet's area, as
-/// [`area_of`] gives it.
+/// Draws a polygon, a line or a rectangle. Any other packet changes nothing. Returns the packet's area, as [`area_of`]
+/// does.
 ///
-/// The outcome is that of one pixel after another: the cells of a triangle or rectangle from the top row
-/// down and in each row from left to right, and the points of a line in their order. Texture page, depth
-/// and blending mode are those of the registers, so that a textured polygon's own page is to be put there
-/// before.
+/// The result equals that of drawing one pixel after another. Triangles and rectangles are drawn row by row from the
+/// top, and each row from left to right. The points of a line are drawn in their order. Texture page, depth and
+/// blending mode are those of the registers. So the page of a textured polygon must be put there before the call.
 ///
-/// Video memory and the registers must have the same height, and the packet be in the ranges of `decode`.
+/// Video memory and registers must have the same height, and the packet's fields must be in the ranges that
+/// `gp0_packets::decode` returns.
 #[inline(always)]
 #[tactic(auto, unfolding(crate::specs::Draw::drawn_packet, crate::specs::Costs::draw_cost, crate::specs::Areas::area_of))]
 pub fn draw<L: Ledger>(

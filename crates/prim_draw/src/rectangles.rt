@@ -1,4 +1,4 @@
-// Rectangles by rows.
+// Rectangles, row by row.
 ghost use Rattle.std.specs.Prelude.{◌≡◌, ◌≤◌, ◌<◌, ◌+◌, ◌*◌, IfSome, length};
 ghost use Rattle.gp0_packets.specs.Ranges.{IsPlace};
 ghost use Rattle.texel_lanes.specs.Texture.{HasPage, IsTexture};
@@ -17,16 +17,16 @@ use span_lanes::{Brush, Texture};
 use std::sync::ledger::Ledger;
 use vram_store::{Steps, Vram};
 
-/// The cells of a whole rectangle, with the offset added.
+/// All cells of a rectangle, with the drawing offset added.
 #[derive(Clone, Copy)]
 pub(crate) struct Extent {
     /// The first column.
     pub(crate) left: i32,
     /// The first row.
     pub(crate) top: i32,
-    /// How many columns.
+    /// The number of columns.
     pub(crate) w: u16,
-    /// How many rows.
+    /// The number of rows.
     pub(crate) h: u16,
 }
 
@@ -41,15 +41,16 @@ pub(crate) struct RectangleSetup {
     pub(crate) u: u8,
     /// The row of the first texel within the texture page.
     pub(crate) v: u8,
-    /// Whether the column of the texel falls from cell to cell, instead of rising.
+    /// Whether the texel's column decreases from cell to cell, instead of increasing.
     pub(crate) flip_x: bool,
-    /// Whether the row of the texel falls from row to row, instead of rising.
+    /// Whether the texel's row decreases from row to row, instead of increasing.
     pub(crate) flip_y: bool,
-    /// How the pixels come to the cells.
+    /// The pixel settings.
     pub(crate) brush: Brush,
 }
 
-/// A rectangle of w by h cells, with the offset added.
+/// Returns the extent of a rectangle of `w` by `h` cells, with the drawing offset added. `w` is at most 1023, and `h`
+/// at most 511.
 #[tactic(auto, unfolding(crate::specs::Rectangles::extent_at))]
 pub(crate) fn extent_at(regs: &Regs, x: i32, y: i32, w: u16, h: u16) -> Extent
     requires place { IsPlace x y }
@@ -79,7 +80,7 @@ fn cells_box(extent: &Extent) -> Box2
     }
 }
 
-/// The cells of a rectangle in the drawing area. None where there is none.
+/// Returns the box of a rectangle in the drawing area, or `None` if it has no cell there.
 #[tactic(auto, unfolding(crate::specs::Rectangles::rectangle_box))]
 pub(crate) fn rectangle_box(regs: &Regs, extent: &Extent) -> Option<Box2>
     requires is { IsExtent extent.now }
@@ -108,7 +109,7 @@ fn optional_texture(regs: &Regs, textured: bool, clut: u16, raw: bool) -> Option
     }
 }
 
-/// What a rectangle is drawn with, whose first texel has these coordinates.
+/// Returns what a rectangle is drawn with. `u` and `v` are the coordinates of its first texel. It is never dithered.
 #[tactic(auto, unfolding(crate::specs::Rectangles::rectangle_setup_in))]
 pub(crate) fn rectangle_setup_in(regs: &Regs, style: &Style, u: u8, v: u8) -> RectangleSetup
     ensures value { result ≡ rectangle_setup_in regs.now style.now u v }
@@ -127,7 +128,7 @@ pub(crate) fn rectangle_setup_in(regs: &Regs, style: &Style, u: u8, v: u8) -> Re
 }
 
 impl RectangleSetup {
-    /// Draws a rectangle, and answers its box as [`rectangle_box`] does.
+    /// Draws a rectangle and returns its box, as [`rectangle_box`] does.
     pub(crate) fn draw<L: Ledger>(
         &self,
         vram: &mut Vram,

@@ -1,4 +1,4 @@
-// The loop over the rows of what is drawn.
+// The loop over the rows of a primitive.
 ghost use Rattle.std.specs.Prelude.{ℕ};
 ghost use Rattle.vram_store.specs.Vram.{height_of};
 ghost use Rattle.span_lanes.specs.ClipRect.{IsClipRect};
@@ -10,22 +10,22 @@ use span_lanes::Run;
 use std::sync::ledger::Ledger;
 use vram_store::{Steps, Vram};
 
-/// What draws cells, row by row.
+/// Draws the cells of a primitive, row by row.
 pub(crate) trait RowDrawer: Drop {
     ghost use Rattle.std.specs.Prelude.{◌≡◌, IfSome, List};
     ghost use Rattle.prim_draw.specs.Pattern.{Pattern};
     ghost use Rattle.prim_draw.specs.Rows.{DrawsRun};
 
-    // What it draws with.
+    // The pattern that it draws with.
     ghost pattern: { Self → Pattern };
 
-    // The runs that it may draw.
+    // It may draw this run in this row.
     ghost reaches: { Self → ℕ → Run → Type 0 };
 
-    // Holds where it is ready for video memory.
+    // It is ready to draw in this video memory: its cached palette, if any, equals the one there.
     ghost ready: { Self → List ℕ → Type 0 };
 
-    /// Draws a run of cells, or none.
+    /// Draws the run `found` in row `y`, or nothing if it is `None`.
     fn draw_run<L: Ledger>(
         &mut self,
         vram: &mut Vram,
@@ -43,7 +43,7 @@ pub(crate) trait RowDrawer: Drop {
         ensures ready { ready self.new vram.new };
 }
 
-/// Draws the cells of each row, from the first row to the last.
+/// Draws the cells of `rows` with `drawer`, from the first row to the last.
 #[inline(always)]
 pub(crate) fn draw_rows<R: Rows, P: RowDrawer, L: Ledger>(
     vram: &mut Vram,

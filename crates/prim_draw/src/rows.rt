@@ -1,7 +1,7 @@
 // What cells of each row are drawn.
 use span_lanes::{ClipRect, Run};
 
-/// Rows of a block of cells, from the top: the cells that are drawn of each stand side by side.
+/// The rows of a clip rectangle, from the top. The drawn cells of each are consecutive.
 pub(crate) trait Rows: Drop {
     ghost use Rattle.std.specs.Prelude.{ℕ, ◌≡◌, ◌+◌, ◌<◌, IfSome, List};
     ghost use Rattle.px_num.specs.declared.shape.Cell.{Cell};
@@ -9,23 +9,24 @@ pub(crate) trait Rows: Drop {
     ghost use Rattle.prim_draw.specs.Triangles.{run_cells};
     ghost use Rattle.span_lanes.specs.declared.span.Run.{Run};
 
-    // The block.
+    // The clip rectangle.
     ghost within: { Self → ClipRect };
 
     // The cells of each row that are drawn.
     ghost cells: { Self → ℕ → List Cell };
 
-    // The runs that may be found in a row.
+    // `run_at` may return this run for this row.
     ghost gives: { Self → ℕ → Run → Type 0 };
 
-    // Holds where the next row is this one.
+    // `run_at` may be called for this row.
     ghost stands: { Self → ℕ → Type 0 };
 
-    /// The block.
+    /// Returns the clip rectangle.
     fn clip_rect(&self) -> ClipRect
         ensures { result ≡ within self.now };
 
-    /// The cells that are drawn of the next row, which has this number.
+    /// Returns the drawn cells of the next row, or `None` if there are none. `y` must be the number of this row, which
+    /// is in the clip rectangle. After the call, the next row is `y + 1`.
     fn run_at(&mut self, y: u16) -> Option<Run>
         requires stands { stands self.old y }
         requires within { y < (within self.old).y + (within self.old).h }
@@ -37,7 +38,7 @@ pub(crate) trait Rows: Drop {
         ensures same { (y : ℕ) (run : Run) → gives self.new y run → gives self.old y run };
 }
 
-/// All cells of a block.
+/// All cells of a clip rectangle.
 #[derive(Clone, Copy)]
 pub(crate) struct ClipRectRows {
     pub(crate) clip_rect: ClipRect,

@@ -19,18 +19,19 @@ use span_lanes::{Brush, Paint, Run, Span, draw_solid, solid_of};
 use std::sync::ledger::Ledger;
 use vram_store::{Steps, Vram};
 
-/// A colour that each cell becomes, whatever it holds, and the halfword that it is there.
+/// A colour for which each cell becomes the same halfword, whatever its value.
 #[derive(Clone, Copy)]
 pub(crate) struct Solid {
     /// The colour.
     pub(crate) color: u32,
-    /// How it comes to the cells.
+    /// The pixel settings.
     pub(crate) brush: Brush,
-    /// What is written.
+    /// The halfword that each cell becomes.
     pub(crate) halfword: u16,
 }
 
-/// The colour of a triangle, where each of its cells becomes the same halfword.
+/// Returns the colour and the halfword of a triangle whose cells all become one halfword. Returns `None` for a triangle
+/// that is textured or shaded, or whose pixels are blended or tested.
 #[inline(always)]
 #[tactic(auto, unfolding(crate::specs::Triangles::triangle_state, crate::specs::Triangles::triangle_paint))]
 pub(crate) fn solid_color_in(regs: &Regs, style: &Style) -> Option<Solid>
@@ -46,7 +47,7 @@ pub(crate) fn solid_color_in(regs: &Regs, style: &Style) -> Option<Solid>
     }
 }
 
-// A colour and a brush, where each cell becomes the same halfword.
+// Returns a colour and the halfword that each cell becomes, or `None` if pixels are blended, tested or dithered.
 #[inline(always)]
 fn solid_flat(color: u32, brush: &Brush) -> Option<Solid>
     requires is { IsBrush brush.now }
@@ -65,7 +66,8 @@ fn solid_flat(color: u32, brush: &Brush) -> Option<Solid>
 }
 
 impl Solid {
-    /// Draws the cells of a box that are inside of a triangle.
+    /// Draws the cells of the box `clip` that are inside a triangle. The box must be in video memory and in the
+    /// triangle's bounding box.
     #[inline(always)]
     pub(crate) fn draw_rows<L: Ledger>(
         &self,

@@ -1,10 +1,10 @@
-// How pixels are made.
+// The style of a polygon or rectangle.
 ghost use Rattle.std.specs.Prelude.{◌≡◌};
 ghost use Rattle.prim_draw.specs.Parts.{no_style, style_of};
 
 use gp0_packets::Packet;
 
-/// How the pixels of a polygon or rectangle are made.
+/// The fields of a polygon or rectangle that determine its pixels.
 #[derive(Clone, Copy)]
 pub(crate) struct Style {
     /// Whether each vertex has a colour of its own.
@@ -13,15 +13,15 @@ pub(crate) struct Style {
     pub(crate) textured: bool,
     /// Whether it is semi-transparent.
     pub(crate) semi: bool,
-    /// Whether its texels are drawn as they are.
+    /// Whether its texels are raw.
     pub(crate) raw: bool,
     /// The palette attribute.
     pub(crate) clut: u16,
-    /// The command's colour, where it is not shaded.
+    /// The command's colour, used if it is not shaded.
     pub(crate) color: u32,
 }
 
-/// How the pixels of a packet are made. For one that is no polygon and no rectangle the answer means nothing.
+/// Returns the style of a polygon or rectangle. For other packets the result has no meaning.
 #[inline(always)]
 pub(crate) fn style_of(packet: &Packet) -> Style
     ensures { result ≡ style_of packet.now }

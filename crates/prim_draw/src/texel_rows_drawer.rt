@@ -1,4 +1,4 @@
-// A pen for the rows of texels of a rectangle.
+// The drawer of a rectangle's rows of texels.
 ghost use Rattle.std.specs.Prelude.{◌≡◌, ◌≤◌, ◌+◌, ◌-◌};
 ghost use Rattle.span_lanes.specs.Shade.{row_u};
 
@@ -8,7 +8,7 @@ use span_lanes::{Run, TexelRowDrawer, row_u};
 use std::sync::ledger::Ledger;
 use vram_store::{Steps, Vram};
 
-// The row of the page whose texels the first row of a block has, and whether it falls from row to row.
+// The first row of a clip rectangle, the page row `v` of its texels, and whether that decreases from row to row.
 #[derive(Clone, Copy)]
 pub(crate) struct FirstRow {
     pub(crate) y: u16,
@@ -17,7 +17,8 @@ pub(crate) struct FirstRow {
 }
 
 impl FirstRow {
-    // The row of the page whose texels row y of the block has.
+    // Returns the row of the page whose texels are drawn in row `y` of the clip rectangle. `y` is at least the first
+    // row, and at most 1023 below it.
     #[inline(always)]
     fn texel_row(&self, y: u16) -> u8
         requires below { self.now.y ≤ y }
@@ -28,7 +29,7 @@ impl FirstRow {
     }
 }
 
-/// What draws the rows of texels.
+/// Draws the rows of a textured rectangle.
 #[derive(Drop)]
 pub(crate) struct RectangleRowDrawer<'a, P> {
     pub(crate) rectangle: ClippedRectangle<'a>,

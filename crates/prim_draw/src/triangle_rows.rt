@@ -18,7 +18,8 @@ pub(crate) struct TriangleRows<'a> {
     walk: RowScan,
 }
 
-/// The rows of a triangle in a box, from the first.
+/// Returns the rows of a triangle in the box `clip`, from the first on. The box must have a cell, be within 1024
+/// columns and rows, and be in the triangle's bounding box.
 #[inline(always)]
 pub(crate) fn rows_of<'a>(tri: &'a Tri, clip: &'a Box2) -> TriangleRows<'a>
     requires small { IsOnScreen 1024 clip.now }

@@ -1,4 +1,4 @@
-// Triangles by rows.
+// Triangles, row by row.
 ghost use Rattle.std.specs.Prelude.{◌≡◌, ◌≤◌, ◌<◌, ◌+◌, ◌*◌, IfSome, length, true, ◌||◌};
 ghost use Rattle.edge_walk.specs.Extent.{bounding_box};
 ghost use Rattle.edge_walk.specs.Triangle.{is_drawn};
@@ -81,7 +81,7 @@ fn state_of(regs: &Regs, style: &Style, tri: &Tri) -> DrawState
     }
 }
 
-// A triangle's box, cut by the drawing area. None where no cell of it is left.
+// Returns a triangle's box, clipped to the drawing area, or `None` if no cell of it is left.
 fn clip_of(regs: &Regs, tri: &Tri) -> Option<Box2>
     requires drawn { is_drawn tri.now ≡ true }
     ensures value { result ≡ triangle_box regs.now tri.now }
@@ -92,7 +92,8 @@ fn clip_of(regs: &Regs, tri: &Tri) -> Option<Box2>
     clipped(regs, &tri.bounds())
 }
 
-// Draws the cells of a box that are inside of a triangle.
+// Draws the cells of the box `clip` that are inside a triangle. The box must be in video memory and in the triangle's
+// bounding box.
 #[inline(always)]
 fn draw_inside<L: Ledger>(
     vram: &mut Vram,
@@ -136,7 +137,7 @@ fn draw_clipped<L: Ledger>(
     area
 }
 
-/// Draws a triangle, and answers its box as [`triangle_box`] does.
+/// Draws a triangle and returns its box, as [`triangle_box`] does.
 #[tactic(auto, unfolding(crate::specs::Triangles::triangle_box, crate::specs::Triangles::drawn_triangle))]
 pub(crate) fn draw_triangle<L: Ledger>(
     vram: &mut Vram,
@@ -157,8 +158,8 @@ pub(crate) fn draw_triangle<L: Ledger>(
     }
 }
 
-/// The box of a triangle in the drawing area. None where it has no cell, the size rule refuses the triangle, or its
-/// area is 0.
+/// Returns the box of a triangle in the drawing area. Returns `None` if no cell of the box is in it, the size rule
+/// refuses the triangle, or its area is 0.
 #[tactic(auto, unfolding(crate::specs::Triangles::triangle_box))]
 pub(crate) fn triangle_box(regs: &Regs, corners: &Corners) -> Option<Box2>
     ensures value { result ≡ triangle_box regs.now corners.now }

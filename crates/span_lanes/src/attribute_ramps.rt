@@ -1,4 +1,4 @@
-// The attributes of a triangle with their ramps, for the rows of a pen.
+// A triangle's attributes with the values that all rows share, computed once.
 ghost use Rattle.std.specs.Prelude.{◌≡◌, ◌+◌};
 ghost use Rattle.edge_walk.specs.Held.{divisor_for};
 ghost use Rattle.span_lanes.specs.AttributeRamps.{AreColorsOf, AreColorRamps, AreCoordRamps, AreCoordRampsOf};
@@ -15,14 +15,14 @@ use std::sync::ledger::Ledger;
 use texel_lanes::Coordinates;
 use vram_store::{Steps, Vram};
 
-// Both texel coordinates.
+// The texel coordinates u and v.
 #[derive(Clone, Copy)]
 pub(crate) struct CoordRamps {
     pub(crate) u: PlaneRamp,
     pub(crate) v: PlaneRamp,
 }
 
-// Three channels.
+// The three colour channels.
 #[derive(Clone, Copy)]
 pub(crate) struct ColorRamps {
     pub(crate) red: PlaneRamp,
@@ -30,14 +30,14 @@ pub(crate) struct ColorRamps {
     pub(crate) blue: PlaneRamp,
 }
 
-// All that goes along a row.
+// All five attributes.
 #[derive(Clone, Copy)]
 pub(crate) struct AttributeRamps {
     pub(crate) coord_planes: CoordRamps,
     pub(crate) colors: ColorRamps,
 }
 
-// The coordinates of a triangle.
+// Returns a triangle's texel coordinates. `divisor` must be `tri.area_divisor()`.
 #[inline(always)]
 pub(crate) fn coord_ramps_of(tri: &Tri, divisor: &Divisor) -> CoordRamps
     requires divisor { divisor.now ≡ divisor_for tri.now }
@@ -49,7 +49,7 @@ pub(crate) fn coord_ramps_of(tri: &Tri, divisor: &Divisor) -> CoordRamps
     }
 }
 
-// Its channels.
+// Returns a triangle's colour channels. `divisor` must be `tri.area_divisor()`.
 #[inline(always)]
 fn color_ramps_of(tri: &Tri, divisor: &Divisor) -> ColorRamps
     requires divisor { divisor.now ≡ divisor_for tri.now }
@@ -62,7 +62,7 @@ fn color_ramps_of(tri: &Tri, divisor: &Divisor) -> ColorRamps
     }
 }
 
-// Both.
+// Returns all five attributes of a triangle. `divisor` must be `tri.area_divisor()`.
 #[inline(always)]
 pub(crate) fn attribute_ramps_of(tri: &Tri, divisor: &Divisor) -> AttributeRamps
     requires divisor { divisor.now ≡ divisor_for tri.now }

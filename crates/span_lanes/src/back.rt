@@ -1,4 +1,4 @@
-// What the cells of a chunk hold, where that is looked at.
+// The values of a chunk's cells before it is drawn.
 ghost use Rattle.std.specs.Prelude.{◌≡◌, ◌≤◌, ◌<◌, ◌+◌, ◌||◌, ℕ, length, slice_index};
 ghost use Rattle.vram_store.specs.Plot.{is_testing};
 ghost use Rattle.span_lanes.specs.Chunk.{chunk_place};
@@ -13,7 +13,7 @@ use std::sync::ledger::Ledger;
 use vram_store::mask::tests;
 use vram_store::{Steps, Vram};
 
-// Whether it matters what the cells of a span hold.
+// Returns whether a pixel depends on the previous value of its cell: it is blended or tested.
 #[inline(always)]
 pub(crate) fn reads_back(brush: &Brush) -> bool
     ensures { result ≡ (brush.now.semi || is_testing brush.now.mask) }
@@ -21,7 +21,8 @@ pub(crate) fn reads_back(brush: &Brush) -> bool
     brush.semi || tests(brush.mask)
 }
 
-// The cells of a part of a span; zeros where it does not matter what they hold.
+// Returns the values of a chunk's cells in the first `chunk.k` lanes, or zeros if no pixel depends on them. Costs at
+// most one step.
 #[inline(always)]
 pub(crate) fn back_of<L: Ledger>(vram: &Vram, chunk: &Chunk, steps: &mut Steps<L>) -> u16x16
     requires can { CanDraw chunk.now.span.now vram.now }

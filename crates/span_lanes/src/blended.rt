@@ -1,4 +1,4 @@
-// The halfwords of texels over the contents of their cells.
+// The halfwords of texels, blended with their cells.
 ghost use Rattle.std.specs.Prelude.{◌≡◌, ◌≤◌, ◌<◌, ◌==◌, ◌&&◌, if◌then◌else◌};
 ghost use Rattle.std.specs.Prelude.{false, IsTrue, ℕ};
 ghost use Rattle.std.specs.Prelude.{length, slice_index};
@@ -13,7 +13,7 @@ use blend_dither::blend_lanes;
 use px_num::lanes::{add, low_bits, mul, shifted_down, splat, sub_or_zero};
 use std::simd::prelude::*;
 
-// Bit 15 of each lane.
+// Returns bit 15 of each lane, as 0 or 1.
 fn high_bits(texels: u16x16) -> u16x16
     requires { length texels ≡ 16 }
     ensures long { length result ≡ 16 }
@@ -23,7 +23,7 @@ fn high_bits(texels: u16x16) -> u16x16
     shifted_down(texels, 15)
 }
 
-// The first lane where the bit is 1, and else the second.
+// Returns the lane of `first` if that of `bits` is 1, and the lane of `second` if it is 0.
 fn choose(bits: u16x16, first: u16x16, second: u16x16) -> u16x16
     requires long { (length bits ≡ 16) × (length first ≡ 16) × (length second ≡ 16) }
     requires low { EachLane (λ i. slice_index bits i ≤ 1) }
@@ -36,7 +36,7 @@ fn choose(bits: u16x16, first: u16x16, second: u16x16) -> u16x16
     add(firsts, seconds)
 }
 
-// Each lane below 2^15, with a bit 15.
+// Returns bits 0 to 14 of each lane, with the lane of `bits` (0 or 1) as bit 15.
 fn with_high(lanes: u16x16, bits: u16x16) -> u16x16
     requires long { (length lanes ≡ 16) × (length bits ≡ 16) }
     requires low { EachLane (λ i. slice_index bits i ≤ 1) }
@@ -47,7 +47,8 @@ fn with_high(lanes: u16x16, bits: u16x16) -> u16x16
     add(low_bits(lanes, 15), mul(bits, splat(0x8000)))
 }
 
-// Sixteen fronts over the contents of their cells, blended where they are semi-transparent and the bit is 1.
+// Returns `front`, blended with `back` in each lane if `semi` is true and the lane of `bits` (0 or 1) is 1. `mode` is
+// at most 3.
 #[tactic(auto, unfolding(crate::specs::Shade::blended_if))]
 fn blend_high(semi: bool, mode: u8, back: u16x16, front: u16x16, bits: u16x16) -> u16x16
     requires mode { mode ≤ 3 }
@@ -64,7 +65,8 @@ fn blend_high(semi: bool, mode: u8, back: u16x16, front: u16x16, bits: u16x16) -
     }
 }
 
-// The halfwords of sixteen texels over the contents of their cells.
+// Returns the halfwords of sixteen texels. `front` has their colours, which are blended with the cells `back` if `semi`
+// is true and the texel's bit 15 is 1. Bit 15 of the result is the texel's. `mode` is at most 3.
 fn blended_texel_lanes(semi: bool, mode: u8, back: u16x16, texels: u16x16, front: u16x16) -> u16x16
     requires mode { mode ≤ 3 }
     requires long { (length back ≡ 16) × (length texels ≡ 16) × (length front ≡ 16) }
@@ -78,7 +80,7 @@ fn blended_texel_lanes(semi: bool, mode: u8, back: u16x16, texels: u16x16, front
     with_high(blend_high(semi, mode, back, front, bits), bits)
 }
 
-// Sixteen texels as they are.
+// Returns the texels unchanged. Each equals bits 0 to 14 of itself with its own bit 15.
 #[inline(always)]
 #[tactic(auto, using(crate::proofs::TexelLemmas::as_it_is))]
 fn as_they_are(texels: u16x16) -> u16x16
@@ -90,7 +92,9 @@ fn as_they_are(texels: u16x16) -> u16x16
     texels
 }
 
-// The halfwords of k texels over the contents of their cells: the texels themselves where they are drawn as they are.
+// Returns the halfwords of the first `k` texels, 0 to 16. `back` has the values of their cells. If `raw` is true, the
+// first `k` lanes of `drawn.texels` and `drawn.modulated` must be equal; texels that are also not blended are returned
+// unchanged.
 #[inline(always)]
 #[tactic(auto, unfolding(crate::specs::Shade::blended_if))]
 pub(crate) fn blended_of_texels(

@@ -1,4 +1,4 @@
-// Pens for the triangles with a texture that lie in a block apart from it.
+// Row drawers of textured triangles in a clip rectangle without a hazard.
 ghost use Rattle.std.specs.Prelude.{◌≡◌, IfSome, IsTrue, false};
 ghost use Rattle.texel_lanes.specs.Texture.{IsTexture};
 ghost use Rattle.span_lanes.specs.BlockDrawer.{AreContiguous, SuitsMethod};
@@ -14,21 +14,24 @@ use edge_walk::Tri;
 use std::sync::ledger::Ledger;
 use vram_store::{Steps, Vram};
 
-/// How the rows of a triangle are drawn that read nothing that they write: each way has its pen.
+/// The method that draws the rows of a textured triangle in a clip rectangle without a hazard. Each method has its own
+/// drawer.
 #[derive(Clone, Copy)]
 pub enum RowMethod {
-    /// Texels side by side, the palette coloured once, and pixels stored as they are ([`CachedClutDrawer`](crate::CachedClutDrawer)).
+    /// Contiguous four-bit texels under one colour, with opaque pixels and no dither. The palette is modulated by
+    /// `color` once ([`CachedClutDrawer`](crate::CachedClutDrawer)).
     CachedClut { color: u32 },
-    /// Texels side by side ([`ContiguousDrawer`](crate::ContiguousDrawer)).
+    /// Contiguous texels in all other cases ([`ContiguousDrawer`](crate::ContiguousDrawer)).
     Contiguous,
-    /// By the coordinates of each texel, under one colour ([`FlatTexelsDrawer`](crate::FlatTexelsDrawer)).
+    /// The coordinates of each texel are computed; all cells have the colour `color`
+    /// ([`FlatTexelsDrawer`](crate::FlatTexelsDrawer)).
     FlatTexelsByCoords { color: u32 },
-    /// By the coordinates of each texel, under several colours ([`GouraudTexelsDrawer`](crate::GouraudTexelsDrawer)).
+    /// The coordinates and the colour of each texel are computed ([`GouraudTexelsDrawer`](crate::GouraudTexelsDrawer)).
     GouraudTexels,
 }
 
-/// A pen for the spans of a triangle with a texture that lie in a block of cells, none of which is one of the texture
-/// page or of the palette: what is one for all of them is asked once.
+/// Draws the spans of a textured triangle in a clip rectangle. No span in the clip rectangle has a hazard. What all
+/// spans share is computed once.
 pub trait BlockRowDrawer: Drop {
     ghost use Rattle.std.specs.Prelude.{◌≡◌};
     ghost use Rattle.vram_store.specs.Vram.{height_of};
@@ -36,10 +39,11 @@ pub trait BlockRowDrawer: Drop {
     ghost use Rattle.span_lanes.specs.SpanDrawer.{DrawsCells, IsClutFresh, state_span};
     ghost use Rattle.span_lanes.specs.Shade.{IsSpan, LiesIn};
 
-    // What it draws with, and in which block.
+    // The draw state, the cached palette, if any, and the clip rectangle.
     ghost held_in_clip: { Self → BlockDrawerView };
 
-    /// Draws cells of row y, which lie in the block, as [`draw_span`](crate::draw_span) does.
+    /// Draws the cells of `run` in row `y`, as [`draw_span`](crate::draw_span) does. They must be in the clip
+    /// rectangle. The cached palette, if any, must equal the one in video memory; after the call it does so again.
     fn draw<L: Ledger>(&mut self, vram: &mut Vram, run: Run, y: u16, steps: &mut Steps<L>)
         requires span { IsSpan (state_span (held_in_clip self.old).held.state run.x y run.n) }
         requires height { LiesIn (height_of vram.old) (state_span (held_in_clip self.old).held.state run.x y run.n) }
@@ -52,7 +56,8 @@ pub trait BlockRowDrawer: Drop {
             (record { m = vram.old; steps = steps.old }) (record { m = vram.new; steps = steps.new }) };
 }
 
-// Whether the texels of each row are known to stand side by side.
+// Returns true only if the texels of each row are contiguous. The triangle is then unscaled, the window leaves columns
+// unchanged, and the page's cells do not wrap.
 #[inline(always)]
 fn is_contiguous(tri: &Tri, texture: &Texture) -> bool
     requires { IsTexture texture.now }
@@ -62,8 +67,9 @@ fn is_contiguous(tri: &Tri, texture: &Texture) -> bool
     tri.is_unscaled() && texture.window.mask_x == 0 && room
 }
 
-/// The way in which the rows of a triangle are drawn in a block. None where the block is not known to lie apart:
-/// [`SpanDrawer`](crate::SpanDrawer) draws them all.
+/// Returns the method that draws a triangle's rows in a clip rectangle. Returns `None` if spans in it may have a
+/// hazard; [`SpanDrawer`](crate::SpanDrawer) draws such triangles. The clip rectangle must be within 1024 rows, page
+/// and window within their limits.
 #[inline(always)]
 pub fn row_method(
     tri: &Tri,

@@ -1,4 +1,4 @@
-// Spans of texels by their coordinates.
+// Spans whose texels are read by coordinates.
 ghost use Rattle.span_lanes.specs.Draws.{CanDraw, DrawsSpan, at_stage};
 ghost use Rattle.span_lanes.specs.RowSetup.{IsRowSetup};
 ghost use Rattle.span_lanes.specs.ColoredClut.{IsCached};
@@ -13,7 +13,9 @@ use crate::sampler::FlatTexels;
 use std::sync::ledger::Ledger;
 use vram_store::{Steps, Vram};
 
-// A span, by what suits it.
+// Draws a textured span by the coordinates of its texels. If its palette can be modulated once, draws with the cached
+// palette `last`. Otherwise sets `last` to `None`; chunks that may have a hazard are tested first. Entries in `last`
+// must equal those in video memory.
 #[inline(always)]
 pub(crate) fn draw_by_coords<L: Ledger>(
     vram: &mut Vram,

@@ -1,4 +1,4 @@
-// Rows of texels of four bits whose palette is coloured once.
+// Spans of four-bit texels whose palette is modulated once.
 ghost use Rattle.std.specs.Prelude.{◌≡◌, IsTrue};
 ghost use Rattle.span_lanes.specs.Draws.{DrawsSpan, at_stage};
 ghost use Rattle.span_lanes.specs.Guard.{IsHazardFree, HasClutInOtherRow};
@@ -17,7 +17,8 @@ use crate::{Span, Texture};
 use std::sync::ledger::Ledger;
 use vram_store::{Steps, Vram};
 
-// Whether the palette of a row of texels of four bits can be coloured once, where the row has another row's palette.
+// Returns true only if the palette can be modulated once for the whole span: texels have four bits, and pixels are not
+// dithered. The span must have no hazard, and its palette must be in another row.
 #[inline(always)]
 pub(crate) fn can_cache_clut(span: &Span, texture: &Texture) -> bool
     requires hazard_free { IsHazardFree span.now }
@@ -27,7 +28,7 @@ pub(crate) fn can_cache_clut(span: &Span, texture: &Texture) -> bool
     has_undithered_clut16(texture, &span.brush)
 }
 
-// Texels by the palette that is kept.
+// Returns the chunk drawer of these texels, with the modulated palette `colored_clut`.
 #[inline(always)]
 fn cached_under<'a, S: Copy>(
     texels: &FlatTexels<S>,
@@ -44,7 +45,8 @@ fn cached_under<'a, S: Copy>(
     }
 }
 
-// A row of texels, whose palette is kept from then on: by one loop.
+// Draws a span with its modulated palette, which is then cached in `last`, by one loop for all pixel settings. Entries
+// in `last` must equal those in video memory.
 #[inline(always)]
 pub(crate) fn draw_cached<S: IndexSampler + Copy, L: Ledger>(
     vram: &mut Vram,
@@ -65,7 +67,7 @@ pub(crate) fn draw_cached<S: IndexSampler + Copy, L: Ledger>(
     }
 }
 
-// A row, by whether the texels are drawn as they are, and the pixels stored so.
+// Draws a span with its modulated palette, by one of four loops: raw or modulated, opaque or not.
 #[inline(always)]
 fn draw_by_raw<L: Ledger>(
     vram: &mut Vram,
@@ -88,7 +90,7 @@ fn draw_by_raw<L: Ledger>(
     }
 }
 
-// A row of texels side by side, whose palette is kept from then on: by a loop for each way to store the pixels.
+// As [`draw_cached`], for contiguous texels and by one of four loops: raw or modulated, opaque or not.
 #[inline(always)]
 pub(crate) fn draw_cached_run<L: Ledger>(
     vram: &mut Vram,

@@ -1,4 +1,4 @@
-// A pen for rows of texels of four bits side by side, whose palette is coloured once.
+// The drawer of contiguous four-bit texels with a cached palette, for triangles.
 ghost use Rattle.span_lanes.specs.BlockDrawer.{SuitsMethod};
 ghost use Rattle.span_lanes.specs.declared.block_drawer.RowMethod.TheVariants.{CachedClut};
 ghost use Rattle.span_lanes.specs.declared.span.Paint.TheVariants.{TexturedTri};
@@ -18,15 +18,16 @@ use std::marker::Model;
 use std::sync::ledger::Ledger;
 use vram_store::{Steps, Vram};
 
-/// Texels of four bits side by side under one colour: the palette is coloured once, and pixels are stored as they are.
+/// Draws contiguous four-bit texels of a triangle under one colour. The palette is modulated once, and pixels are
+/// opaque.
 #[derive(Drop)]
 pub struct CachedClutDrawer {
-    // the last span that was drawn; at first one of no cells
+    // the last drawn span; at first a span without cells
     span: Span,
     setup: TriangleSetup,
     color: u32,
     clip_rect: ClipRect,
-    // the palette that was seen, and what the colour makes of it
+    // the palette, modulated by the colour, if it is cached
     last: Option<ColoredClut>,
 }
 
@@ -45,7 +46,8 @@ impl CachedClutDrawer {
     ghost use Rattle.std.specs.Prelude.{◌≡◌};
     ghost use Rattle.span_lanes.specs.ClipRect.{new_view_in_clip};
 
-    /// A pen for a triangle, a texture and a brush in a block.
+    /// Returns the drawer of a textured triangle with these pixel settings in a clip rectangle. The drawer's method
+    /// must suit them; each that [`row_method`](crate::row_method) returns does.
     #[inline(always)]
     pub fn new(
         tri: &Tri,

@@ -1,4 +1,4 @@
-// A pen for rows of texels of four bits that stand side by side, whose palette is coloured once.
+// The drawer of contiguous four-bit texels with a cached palette, for rectangles.
 ghost use Rattle.span_lanes.specs.TexelRows.{CanCacheRows};
 
 use crate::TexelRows;
@@ -10,11 +10,11 @@ use std::marker::Model;
 use std::sync::ledger::Ledger;
 use vram_store::{Steps, Vram};
 
-/// Texels of four bits side by side, in cells apart from the block: the palette is coloured once.
+/// Draws rows of contiguous four-bit texels in a clip rectangle without a hazard. The palette is modulated once.
 #[derive(Drop)]
 pub struct CachedClutRowsDrawer {
     rows: TexelRows,
-    // the palette, and what the colour makes of it; at first it was not seen
+    // the palette, modulated by the colour; `None` until the first row is drawn
     last: Option<ColoredClut>,
 }
 
@@ -32,7 +32,7 @@ impl CachedClutRowsDrawer {
     ghost use Rattle.std.specs.Prelude.{◌≡◌};
     ghost use Rattle.span_lanes.specs.TexelRows.{new_rows_view};
 
-    /// A pen for these rows.
+    /// Returns the drawer of `rows`, for which [`TexelRows::can_cache_clut`] must be true.
     #[inline(always)]
     pub fn new(rows: &TexelRows) -> CachedClutRowsDrawer
         requires { CanCacheRows rows.now }

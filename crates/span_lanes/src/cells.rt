@@ -24,7 +24,7 @@ fn put_if<L: Ledger>(vram: &mut Vram, x: u16, y: u16, written: Option<u16>, step
     }
 }
 
-// Draws cell i of a span.
+// Draws cell `i` of a span, below `span.n`. Costs at most two steps, plus those of the texel.
 pub(crate) fn draw_cell<L: Ledger>(vram: &mut Vram, span: &Span, i: u16, steps: &mut Steps<L>)
     requires span { IsSpan span.now }
     requires height { LiesIn (height_of vram.old) span.now }

@@ -1,13 +1,13 @@
-// Parts of spans.
+// Chunks of spans.
 
 use crate::Span;
 
-// Up to sixteen cells of a span, from one of them on.
+// Up to sixteen consecutive cells of a span.
 #[derive(Clone, Copy)]
 pub(crate) struct Chunk<'a> {
     pub(crate) span: &'a Span,
-    // the number of the first cell
+    // the number of its first cell in the span
     pub(crate) first: u16,
-    // how many
+    // the number of its cells
     pub(crate) k: u8,
 }

@@ -1,4 +1,4 @@
-// The loop over the parts of a span.
+// The loop over the chunks of a span.
 ghost use Rattle.std.specs.Prelude.{ℕ, List};
 ghost use Rattle.span_lanes.specs.Draws.{CanDraw, DrawsChunk, DrawsSpan, IsChunk, at_stage};
 
@@ -9,15 +9,15 @@ use px_num::halves::HALF;
 use std::sync::ledger::Ledger;
 use vram_store::{Steps, Vram};
 
-// How the parts of a span are drawn, all in one way.
+// Draws the chunks of a span.
 pub(crate) trait ChunkDrawer {
     ghost use Rattle.span_lanes.specs.declared.chunk.Chunk.{Chunk};
     ghost use Rattle.span_lanes.specs.declared.span.Span.{Span};
 
-    // Holds where the way serves a span in video memory.
+    // The drawer serves this span in this video memory: it can draw its chunks.
     ghost serves: { Self → Span → List ℕ → Type 0 };
 
-    // How many steps each part spares: they pay for what was read once.
+    // The number of steps that each chunk takes less than it may. They pay for what was read before the loop.
     ghost spared: { Self → ℕ };
 
     fn draw_chunk<L: Ledger>(&self, vram: &mut Vram, chunk: &Chunk, steps: &mut Steps<L>)
@@ -27,11 +27,11 @@ pub(crate) trait ChunkDrawer {
             (at_stage vram.old steps.old) (at_stage vram.new steps.new) }
         ensures serves { serves self.now chunk.now.span.now vram.new };
 
-    // Only spans that can be drawn are served.
+    // It serves only spans that can be drawn.
     ghost can: { (c : Self) (s : Span) (m : List ℕ) → serves c s m → CanDraw s m };
 }
 
-// Draws a span part by part.
+// Draws a span chunk by chunk. `chunks` must serve it.
 #[inline(always)]
 pub(crate) fn draw_chunks<C: ChunkDrawer, L: Ledger>(
     vram: &mut Vram,
@@ -59,7 +59,7 @@ pub(crate) fn draw_chunks<C: ChunkDrawer, L: Ledger>(
         first: 16 * whole,
         k: rest as u8,
     };
-    // A rest of at most half of the lanes is compiled apart, so that the compiler may drop the other half.
+    // A last chunk of at most eight cells is compiled separately, so that the compiler may drop the other eight lanes.
     if rest > HALF as u16 {
         chunks.draw_chunk(vram, &chunk, steps);
     } else if rest > 0 {
@@ -67,7 +67,7 @@ pub(crate) fn draw_chunks<C: ChunkDrawer, L: Ledger>(
     }
 }
 
-// Draws a span part by part, by a loop of its own where pixels are stored as they are.
+// Draws a span chunk by chunk, with a separate loop for opaque pixels. `chunks` must serve it.
 #[inline(always)]
 pub(crate) fn draw_by_brush<C: ChunkDrawer, L: Ledger>(
     vram: &mut Vram,

@@ -1,14 +1,14 @@
-// Blocks of cells.
+// Clip rectangles.
 
-/// Cells of video memory, from (x, y) to the right and downward.
+/// A rectangle of cells of video memory, outside which nothing is drawn.
 #[derive(Clone, Copy)]
 pub struct ClipRect {
     /// The first column.
     pub x: u16,
     /// The first row.
     pub y: u16,
-    /// How many columns, at least 1.
+    /// The number of columns, at least 1.
     pub w: u16,
-    /// How many rows, at least 1.
+    /// The number of rows, at least 1.
     pub h: u16,
 }

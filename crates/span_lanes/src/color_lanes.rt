@@ -1,4 +1,4 @@
-// The colours and dither offsets of the cells of a chunk.
+// The colours and dither offsets of sixteen cells.
 ghost use Rattle.std.specs.Prelude.{◌≡◌, ◌≤◌, ◌<◌, ◌+◌, ◌/◌, ◌%◌, ◌*◌, ◌^◌, ℕ, pos};
 ghost use Rattle.std.specs.Prelude.{length, slice_index, slice_index_or};
 ghost use Rattle.blend_dither.specs.Color.{dither_offset, tone_of, modulated_of};
@@ -9,7 +9,7 @@ use blend_dither::{modulate_lanes, tone_lanes};
 use px_num::lanes::splat;
 use std::simd::prelude::*;
 
-// Sixteen colours by their channels.
+// The colours of sixteen cells. Each channel is 0 to 255.
 #[derive(Clone, Copy)]
 pub(crate) struct ColorLanes {
     pub(crate) red: u16x16,
@@ -34,13 +34,13 @@ pub(crate) fn one_color(color: u32) -> ColorLanes
     }
 }
 
-// Sixteen dither offsets.
+// The dither offsets of sixteen cells, or zeros.
 #[derive(Clone, Copy)]
 pub(crate) struct DitherLanes {
     pub(crate) lanes: i16x16,
 }
 
-// No dither.
+// Returns zeros, for cells that are not dithered.
 pub(crate) fn no_dither() -> DitherLanes
     ensures small { AreDitherLanes result.lanes }
     ensures value { EachLane (λ i. slice_index_or result.lanes i (pos 0) ≡ pos 0) }
@@ -50,7 +50,7 @@ pub(crate) fn no_dither() -> DitherLanes
     }
 }
 
-// The dither offsets of sixteen cells of a row, by the row and then by the column of the first, both modulo 4.
+// The dither offsets of sixteen cells of a row. Entry `4 * (y % 4) + x % 4` is for the cells from (`x`, `y`) on.
 static DITHER_ROWS: [[i16; 16]; 16] = [
     [-4, 0, -3, 1, -4, 0, -3, 1, -4, 0, -3, 1, -4, 0, -3, 1],
     [0, -3, 1, -4, 0, -3, 1, -4, 0, -3, 1, -4, 0, -3, 1, -4],
@@ -70,7 +70,7 @@ static DITHER_ROWS: [[i16; 16]; 16] = [
     [-2, 3, -1, 2, -2, 3, -1, 2, -2, 3, -1, 2, -2, 3, -1, 2],
 ];
 
-// A row of them.
+// Returns entry `place` of the table, below 16.
 fn dither_row(place: usize) -> [i16; 16]
     requires { place < 16 }
     ensures long { length result ≡ 16 }
@@ -79,7 +79,7 @@ fn dither_row(place: usize) -> [i16; 16]
     DITHER_ROWS[place]
 }
 
-// The dither offsets of sixteen cells from (x, y) on.
+// Returns the dither offsets of the sixteen cells from (`x`, `y`) on.
 fn dithered(x: u16, y: u16) -> DitherLanes
     ensures small { AreDitherLanes result.lanes }
     ensures value { EachLane (λ i. slice_index_or result.lanes i (pos 0) ≡ dither_offset (x + i) y) }
@@ -89,8 +89,8 @@ fn dithered(x: u16, y: u16) -> DitherLanes
     }
 }
 
-// The dither offsets of sixteen cells from (x, y) on, or zeros. They are also those of cells 4, 8, 12 and so on
-// to the right.
+// Returns the dither offsets of the sixteen cells from (`x`, `y`) on, or zeros without `dither`. They repeat every four
+// columns, so they also hold for the later chunks of a span. `x` is at most 1024.
 #[tactic(auto, unfolding(crate::specs::Shade::dither_of))]
 pub(crate) fn dither_lanes_of(dither: bool, x: u16, y: u16) -> DitherLanes
     requires { x ≤ 1024 }
@@ -99,7 +99,7 @@ pub(crate) fn dither_lanes_of(dither: bool, x: u16, y: u16) -> DitherLanes
     if dither { dithered(x, y) } else { no_dither() }
 }
 
-// The tones of sixteen colours.
+// Returns the dithered 15-bit colours of sixteen 24-bit colours.
 pub(crate) fn tones_of(colors: ColorLanes, dither_lanes: DitherLanes) -> u16x16
     requires channels { AreChannels colors.red × AreChannels colors.green × AreChannels colors.blue }
     requires dither_lanes { AreDitherLanes dither_lanes.lanes }
@@ -112,7 +112,7 @@ pub(crate) fn tones_of(colors: ColorLanes, dither_lanes: DitherLanes) -> u16x16
     tone_lanes(colors.red, colors.green, colors.blue, dither_lanes.lanes)
 }
 
-// Sixteen texels under colours.
+// Returns sixteen texels, modulated by these colours and dithered.
 pub(crate) fn modulated_by(texels: u16x16, colors: ColorLanes, dither_lanes: DitherLanes) -> u16x16
     requires texels { length texels ≡ 16 }
     requires channels { AreChannels colors.red × AreChannels colors.green × AreChannels colors.blue }

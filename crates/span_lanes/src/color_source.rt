@@ -1,18 +1,18 @@
-// Where the colours of a span come from.
+// Sources of the colours of a span.
 ghost use Rattle.std.specs.Prelude.{◌+◌};
 
 use crate::Span;
 use crate::chunk::Chunk;
 use crate::color_lanes::ColorLanes;
 
-// How the colours of the cells of a span are found, part by part.
+// Computes the colours of a span's cells, chunk by chunk.
 pub(crate) trait ColorSource {
     ghost use Rattle.span_lanes.specs.Draws.{IsChunk};
     ghost use Rattle.span_lanes.specs.Lanes.{HasColors, colors_from};
     ghost use Rattle.span_lanes.specs.Shade.{IsSpan};
     ghost use Rattle.span_lanes.specs.declared.span.Span.{Span};
 
-    // Holds where they are those of a span.
+    // The colours are those of this span.
     ghost suits: { Self → Span → Type 0 };
 
     fn colors(&self, chunk: &Chunk) -> ColorLanes

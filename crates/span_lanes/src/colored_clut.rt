@@ -1,4 +1,4 @@
-// Textures of four bits under one colour, whose palette is read and coloured once a primitive.
+// The palette of four-bit texels, read and modulated once for many cells.
 ghost use Rattle.std.specs.Prelude.{◌≡◌, ◌≤◌, ◌<◌, ◌+◌, IfSome, IsTrue, pos};
 ghost use Rattle.std.specs.Prelude.{length, slice_index};
 ghost use Rattle.px_num.specs.Lanes.{EachLane, AreBytes};
@@ -16,7 +16,7 @@ use std::sync::ledger::Ledger;
 use texel_lanes::{Table, clut_row, entries_at, sixteen_entries, table_of};
 use vram_store::{Steps, Vram};
 
-// The sixteen entries of a palette, and what a colour makes of them.
+// The sixteen entries of a palette, and the same entries modulated by `color`, or unchanged if `raw` is true.
 #[derive(Clone, Copy)]
 pub(crate) struct ColoredClut {
     pub(crate) raw: bool,
@@ -25,14 +25,14 @@ pub(crate) struct ColoredClut {
     pub(crate) modulated: Table,
 }
 
-// Texels, and what a colour makes of them.
+// Sixteen texels, and the same texels modulated by their colours.
 #[derive(Clone, Copy)]
 pub(crate) struct ModulatedTexels {
     pub(crate) texels: u16x16,
     pub(crate) modulated: u16x16,
 }
 
-// What a colour makes of sixteen entries.
+// Returns sixteen palette entries, and the same entries modulated by `color`, or unchanged if `raw` is true.
 #[inline(always)]
 fn colored(raw: bool, color: u32, entries: u16x16) -> ColoredClut
     requires { length entries ≡ 16 }
@@ -49,7 +49,7 @@ fn colored(raw: bool, color: u32, entries: u16x16) -> ColoredClut
     }
 }
 
-// Whether what is kept is a palette under this colour, or as it is.
+// Returns whether a palette is cached with this `raw` and `color`.
 #[inline(always)]
 fn is_colored_by(last: &Option<ColoredClut>, raw: bool, color: u32) -> bool
     ensures { IsTrue result → IsColoredBy last.now raw color }
@@ -60,7 +60,8 @@ fn is_colored_by(last: &Option<ColoredClut>, raw: bool, color: u32) -> bool
     }
 }
 
-// Keeps the palette of a texture under a colour: it is read and coloured, unless it is kept so.
+// Makes `last` the texture's palette, modulated by `color`, or unchanged if the texture is raw. Reads nothing if `last`
+// is already so. Entries in `last` must equal those in video memory. Costs at most one step.
 #[inline(always)]
 #[tactic(auto, using(crate::proofs::ColoredClutLemmas::palette_is, crate::proofs::ColoredClutLemmas::palette_kept))]
 pub(crate) fn cache_clut<L: Ledger>(
@@ -81,7 +82,8 @@ pub(crate) fn cache_clut<L: Ledger>(
     }
 }
 
-// Sixteen texels by their indexes, and what the colour makes of them.
+// Returns the palette entries at sixteen indexes below 16, and the same entries modulated. `raw` must be that of
+// `colored_clut`.
 #[inline(always)]
 #[tactic(auto, unfolding(crate::specs::Shade::modulated_texel))]
 pub(crate) fn texels_by_index(
@@ -108,7 +110,8 @@ pub(crate) fn texels_by_index(
     ModulatedTexels { texels, modulated }
 }
 
-// Whether a palette of sixteen entries can be coloured for a whole span.
+// Returns true only if the palette can be modulated once for the whole span. It then has sixteen entries in another
+// row, and the span has no hazard and no dither.
 pub(crate) fn suits(span: &Span, row_setup: &RowSetup) -> bool
     requires row_setup { IsRowSetup span.now row_setup.now }
     ensures { IsTrue result → CanCacheClut span.now row_setup.now.texture }

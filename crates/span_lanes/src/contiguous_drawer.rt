@@ -1,4 +1,4 @@
-// A pen for rows of texels side by side.
+// The drawer of contiguous texels, for triangles.
 ghost use Rattle.span_lanes.specs.BlockDrawer.{SuitsMethod};
 ghost use Rattle.span_lanes.specs.declared.block_drawer.RowMethod.TheVariants.{Contiguous};
 ghost use Rattle.span_lanes.specs.declared.span.Paint.TheVariants.{TexturedTri};
@@ -14,14 +14,14 @@ use std::marker::Model;
 use std::sync::ledger::Ledger;
 use vram_store::{Steps, Vram};
 
-/// Texels side by side.
+/// Draws contiguous texels of a triangle.
 #[derive(Drop)]
 pub struct ContiguousDrawer {
-    // the last span that was drawn; at first one of no cells
+    // the last drawn span; at first a span without cells
     span: Span,
     setup: TriangleSetup,
     clip_rect: ClipRect,
-    // the palette that was seen, and what a colour makes of it
+    // the palette, modulated by a colour, if it is cached
     last: Option<ColoredClut>,
 }
 
@@ -40,7 +40,8 @@ impl ContiguousDrawer {
     ghost use Rattle.std.specs.Prelude.{◌≡◌};
     ghost use Rattle.span_lanes.specs.ClipRect.{new_view_in_clip};
 
-    /// A pen for a triangle, a texture and a brush in a block.
+    /// Returns the drawer of a textured triangle with these pixel settings in a clip rectangle. The drawer's method
+    /// must suit them; each that [`row_method`](crate::row_method) returns does.
     #[inline(always)]
     pub fn new(
         tri: &Tri,

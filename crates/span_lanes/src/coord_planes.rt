@@ -8,7 +8,7 @@ ghost use Rattle.span_lanes.specs.Shade.{attribute_in};
 
 use edge_walk::{Divisor, Plane, Tri};
 
-// Both coordinates over a triangle.
+// The planes of u and v.
 #[derive(Clone, Copy)]
 pub(crate) struct CoordPlanes {
     pub(crate) u: Plane,
@@ -26,7 +26,7 @@ pub(crate) fn coord_planes_of(tri: &Tri, divisor: &Divisor) -> CoordPlanes
     }
 }
 
-// An attribute of a triangle at a cell inside.
+// Returns the value of an attribute's plane at the cell (`x`, `y`), which must be inside the triangle.
 #[inline(always)]
 pub(crate) fn value_of(plane: &Plane, x: u16, y: u16) -> u8
     ensures { (tri : Corners) (which : ℕ)

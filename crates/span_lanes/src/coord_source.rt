@@ -1,4 +1,4 @@
-// Texels by the coordinates of a part's cells.
+// Texels of a chunk, read by their coordinates.
 ghost use Rattle.std.specs.Prelude.{◌≡◌, ◌≤◌, ◌+◌, ◌*◌};
 ghost use Rattle.texel_lanes.specs.Texture.{texel_steps};
 ghost use Rattle.span_lanes.specs.Draws.{IsChunk};
@@ -17,11 +17,11 @@ use std::sync::ledger::Ledger;
 use texel_lanes::{AllAtOnce, Coordinates, OneByOne, indexes_of, read_few, read_texels};
 use vram_store::{Steps, Vram};
 
-// How the coordinates of the texels of a span are found, part by part.
+// Computes the texel coordinates of a span, chunk by chunk.
 pub(crate) trait CoordSource {
     ghost use Rattle.span_lanes.specs.declared.span.Span.{Span};
 
-    // Holds where it finds those of a span.
+    // The coordinates are those of this span.
     ghost places: { Self → Span → Type 0 };
 
     fn coordinates(&self, chunk: &Chunk) -> Coordinates
@@ -32,7 +32,7 @@ pub(crate) trait CoordSource {
             result.us result.vs };
 }
 
-// The texels of a part.
+// As [`texels_by_coords`], compiled for any number of cells.
 #[inline(never)]
 fn many_texels<P: CoordSource, L: Ledger>(
     source: &P,
@@ -49,7 +49,8 @@ fn many_texels<P: CoordSource, L: Ledger>(
     read_texels::<AllAtOnce, L>(vram, texture, &at, chunk.k, steps)
 }
 
-// The texels of a part of at most eight cells: compiled apart, so that the compiler may drop the other lanes.
+// As [`texels_by_coords`], for at most eight cells. It is compiled separately, so that the compiler may drop the other
+// lanes.
 #[inline(never)]
 fn few_texels<P: CoordSource, L: Ledger>(
     source: &P,
@@ -67,7 +68,8 @@ fn few_texels<P: CoordSource, L: Ledger>(
     read_few(vram, texture, &at, chunk.k, steps)
 }
 
-// The texels of a part by its coordinates.
+// Returns the texels of a chunk in the first `chunk.k` lanes. `source` must have the coordinates of its span. Costs at
+// most `chunk.k` steps at depths 2 and 3, and twice as many at depths 0 and 1.
 #[inline(always)]
 pub(crate) fn texels_by_coords<P: CoordSource, L: Ledger>(
     source: &P,
@@ -87,7 +89,8 @@ pub(crate) fn texels_by_coords<P: CoordSource, L: Ledger>(
     }
 }
 
-// The indexes of its texels of four bits.
+// Returns the palette indexes of a chunk's texels in the first `chunk.k` lanes. The texture must have depth 0. Costs at
+// most `chunk.k` steps.
 #[inline(always)]
 pub(crate) fn indexes_by_coords<P: CoordSource, L: Ledger>(
     source: &P,

@@ -1,27 +1,30 @@
-// Which loop draws a span: the one place where that is chosen.
+// The choice of the loop that draws a span.
 //
-// A loop over parts is compiled by itself (`draw_chunks` over one kind of `ChunkDrawer`) where what is known of a span spares
-// work in each part. These there are; "as it is" means neither blended, tested nor marked, and a workload of the
-// benchmark that runs the loop stands in brackets.
+// A loop over chunks is compiled separately (`draw_chunks` with one type of `ChunkDrawer`) if what is known of a span
+// saves work in each chunk. This is the list of these loops. "Opaque" pixels are neither blended nor tested, and their
+// bit 15 is not forced. In brackets: a workload of the benchmark that runs the loop.
 //
 // - `Solid`, in `draw_ready` and `draw_solid`: all cells become one halfword, and nothing is read. [triangle flat]
-// - `Untextured`, in `draw_flat`: one colour that is blended, tested or dithered; its channels are known. [rectangle B+F]
-// - `Untextured`, two in `draw_gouraud`: colours along the row, three lines a part, as it is or not. [triangle gouraud]
-// - `CachedClut<TexelRun>`, in `CachedClutDrawer::draw`: a palette coloured once, as it is; it stands in the loop over the rows.
-//   [triangle 4-bit modulated]
-// - `CachedClut<&CoordRamps>` and `Shaded<&CoordRamps>`, in `draw_flat_texels`: by the coordinates of each texel under one
-//   colour, apart from what is written. No line belongs to them.
-// - `GouraudTexels`, in `draw_gouraud_texels`: the same under several. [triangle turned, gouraud, dithered, half]
-// - `CachedClut<TexelRun>`, four in `draw_cached_run`: a palette coloured once, of other spans, raw or not, as it is or not:
-//   two look-ups or four.
-// - `Raw<FourBitRun>`, `Raw<EightBitRun>`, `Raw<FifteenBitRun>`, each as it is or not, in `draw_raw`: texels side by side without a
-//   colour. [triangle 15-bit raw]
-// - `Shaded` of the same three, each as it is or not, in `draw_shaded`: under colours. [rectangle 8-bit modulated]
-// - `CachedClut<&TexCoords>` and `RowSetup`, by the coordinates of each texel: in `draw_row_by_coords` [rectangle that is flipped], and
-//   in `draw_tri` where the block of a triangle is not known to lie apart, to which no line belongs.
+// - `Untextured`, in `draw_flat`: one colour that is blended, tested or dithered. [rectangle B+F]
+// - `Untextured`, two in `draw_gouraud`: three channels that change along the row, opaque or not. [triangle gouraud]
+// - `CachedClut<TexelRun>`, in `CachedClutDrawer::draw`: a cached palette and opaque pixels. The loop is inlined into
+//   the loop over the rows. [triangle 4-bit modulated]
+// - `CachedClut<&CoordRamps>` and `Shaded<&CoordRamps>`, in `draw_flat_texels`: texels by coordinates under one colour,
+//   without a hazard. No workload runs them.
+// - `GouraudTexels`, in `draw_gouraud_texels`: the same under several colours. [triangle turned, gouraud, dithered,
+//   half]
+// - `CachedClut<TexelRun>`, four in `draw_cached_run`: a cached palette for other spans, raw or not, opaque or not. Raw
+//   texels need two table look-ups, modulated ones four.
+// - `Raw<FourBitRun>`, `Raw<EightBitRun>`, `Raw<FifteenBitRun>`, each opaque or not, in `draw_raw`: contiguous raw
+//   texels. [triangle 15-bit raw]
+// - `Shaded` of the same three, each opaque or not, in `draw_shaded`: contiguous modulated texels. [rectangle 8-bit
+//   modulated]
+// - `CachedClut<&TexCoords>` and `RowSetup`, by the coordinates of each texel: in `draw_row_by_coords` [rectangle that
+//   is flipped], and in `draw_tri`, if spans in the triangle's clip rectangle may have a hazard. No workload runs the
+//   second.
 //
-// Rectangles whose palette is coloured once for all rows have four more of `CachedClut<TexelRun>`, in `CachedClutRowsDrawer::draw_row`.
-// [rectangle, sprite 4-bit]
+// Rectangles that cache their palette for all rows have four more loops of `CachedClut<TexelRun>`, in
+// `CachedClutRowsDrawer::draw_row`. [rectangle, sprite 4-bit]
 ghost use Rattle.std.specs.Prelude.{◌≡◌};
 ghost use Rattle.span_lanes.specs.BlockDrawer.{AreContiguous};
 ghost use Rattle.span_lanes.specs.Draws.{CanDraw, DrawsSpan, at_stage};
@@ -53,7 +56,9 @@ use crate::untextured::draw_untextured;
 use std::sync::ledger::Ledger;
 use vram_store::{Steps, Vram};
 
-// A row whose texels stand side by side, and that reads nothing that it writes.
+// Draws a span of contiguous texels. It must have no hazard, and its palette must be in another row. If the palette can
+// be modulated once, caches it in `last`; otherwise sets `last` to `None`. Entries in `last` must equal those in video
+// memory.
 #[inline(always)]
 fn draw_contiguous<L: Ledger>(
     vram: &mut Vram,
@@ -87,7 +92,7 @@ fn draw_contiguous<L: Ledger>(
     }
 }
 
-// A row of a triangle whose texels stand side by side.
+// Draws a row of a triangle, whose texels must be contiguous, as [`draw_contiguous`] does.
 #[inline(never)]
 pub(crate) fn draw_contiguous_row<L: Ledger>(
     vram: &mut Vram,
@@ -106,7 +111,7 @@ pub(crate) fn draw_contiguous_row<L: Ledger>(
     draw_contiguous(vram, span, &found, &setup.shading, last, steps);
 }
 
-// A row of texels whose chunks are planned.
+// Draws a row of texels by their coordinates. `row` must be the span's paint.
 #[inline(never)]
 fn draw_row_by_coords<L: Ledger>(
     vram: &mut Vram,
@@ -125,7 +130,8 @@ fn draw_row_by_coords<L: Ledger>(
     draw_by_coords(vram, span, &row_setup, last, steps);
 }
 
-// A row of texels.
+// Draws a row of texels: by [`draw_contiguous`] if they are contiguous and known to have no hazard, otherwise by their
+// coordinates. `row` must be the span's paint. Entries in `last` must equal those in video memory.
 #[inline(always)]
 pub(crate) fn draw_row<L: Ledger>(
     vram: &mut Vram,
@@ -153,7 +159,7 @@ pub(crate) fn draw_row<L: Ledger>(
     }
 }
 
-// A row of a triangle with a texture.
+// Draws a row of a textured triangle by the coordinates of its texels. `setup` must be that of the span.
 #[inline(never)]
 fn draw_tri<L: Ledger>(
     vram: &mut Vram,
@@ -172,7 +178,8 @@ fn draw_tri<L: Ledger>(
     draw_by_coords(vram, span, &row_setup, last, steps);
 }
 
-// A span: without a look at its cells where that is enough, and else chunk by chunk.
+// Draws a span. `ready` must be the setup of its paint and pixel settings. Entries in `last` must equal those in video
+// memory.
 #[inline(never)]
 pub(crate) fn draw_ready<L: Ledger>(
     vram: &mut Vram,

@@ -1,4 +1,4 @@
-// Rows of one colour by the coordinates of their texels, which read nothing that they write.
+// Rows of one colour without a hazard, whose texels are read by coordinates.
 ghost use Rattle.span_lanes.specs.declared.row_colors.RowColors.TheVariants.{One};
 ghost use Rattle.span_lanes.specs.Draws.{DrawsSpan, at_stage};
 ghost use Rattle.span_lanes.specs.RowColors.{AreRowColors};
@@ -19,7 +19,7 @@ use crate::texels::Shaded;
 use std::sync::ledger::Ledger;
 use vram_store::{Steps, Vram};
 
-// A span under its colour.
+// Draws a span under its colour, without a cached palette.
 #[inline(always)]
 fn draw_shaded<L: Ledger>(
     vram: &mut Vram,
@@ -43,7 +43,9 @@ fn draw_shaded<L: Ledger>(
     draw_chunks(vram, span, &shaded, steps);
 }
 
-// A row of a triangle of one colour.
+// Draws a row of a triangle of one colour. It must have no hazard, and its palette must be in another row. If the
+// palette can be modulated once, caches it in `last`; otherwise sets `last` to `None`. Entries in `last` must equal
+// those in video memory.
 #[inline(never)]
 pub(crate) fn draw_flat_texels<L: Ledger>(
     vram: &mut Vram,

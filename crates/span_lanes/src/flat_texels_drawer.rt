@@ -1,4 +1,4 @@
-// A pen for rows of one colour by the coordinates of their texels.
+// The drawer of texels by coordinates under one colour, for triangles.
 ghost use Rattle.span_lanes.specs.BlockDrawer.{SuitsMethod};
 ghost use Rattle.span_lanes.specs.declared.block_drawer.RowMethod.TheVariants.{FlatTexelsByCoords};
 ghost use Rattle.span_lanes.specs.declared.span.Paint.TheVariants.{TexturedTri};
@@ -15,16 +15,16 @@ use std::marker::Model;
 use std::sync::ledger::Ledger;
 use vram_store::{Steps, Vram};
 
-/// Texels by their coordinates, under one colour.
+/// Draws the texels of a triangle of one colour. Computes the coordinates of each texel.
 #[derive(Drop)]
 pub struct FlatTexelsDrawer {
-    // the last span that was drawn; at first one of no cells
+    // the last drawn span; at first a span without cells
     span: Span,
     texture: Texture,
     color: u32,
     coord_planes: CoordRamps,
     clip_rect: ClipRect,
-    // the palette that was seen, and what the colour makes of it
+    // the palette, modulated by the colour, if it is cached
     last: Option<ColoredClut>,
 }
 
@@ -46,7 +46,8 @@ impl FlatTexelsDrawer {
     ghost use Rattle.std.specs.Prelude.{◌≡◌};
     ghost use Rattle.span_lanes.specs.ClipRect.{new_view_in_clip};
 
-    /// A pen for a triangle, a texture and a brush in a block.
+    /// Returns the drawer of a textured triangle with these pixel settings in a clip rectangle. The drawer's method
+    /// must suit them; each that [`row_method`](crate::row_method) returns does.
     #[inline(always)]
     pub fn new(
         tri: &Tri,

@@ -1,4 +1,4 @@
-// Rows of several colours by the coordinates of their texels, which read nothing that they write.
+// Rows of several colours without a hazard, whose texels are read by coordinates.
 ghost use Rattle.span_lanes.specs.Draws.{DrawsSpan, at_stage};
 ghost use Rattle.span_lanes.specs.CachedClut.{CanTakeTexels};
 ghost use Rattle.span_lanes.specs.AttributeRamps.{AreCoordRampsOf, AreAttributeRampsOf};
@@ -17,7 +17,7 @@ use px_num::halves::wanted_lanes;
 use std::sync::ledger::Ledger;
 use vram_store::{Steps, Vram};
 
-// The texels of a row under its colours.
+// Draws texels by coordinates, under the colours of a triangle.
 #[derive(Clone, Copy)]
 struct GouraudTexels<'a> {
     texture: &'a Texture,
@@ -37,7 +37,7 @@ impl<'a> ChunkDrawer for GouraudTexels<'a> {
 
     ghost spared = { λ c. 0 };
 
-    // What is reckoned for the other half of few lanes is dropped.
+    // If the chunk has at most eight cells, the other lanes are 0, so the compiler drops their computation.
     #[inline(always)]
     fn draw_chunk<L: Ledger>(&self, vram: &mut Vram, chunk: &Chunk, steps: &mut Steps<L>) {
         let AttributeRamps {
@@ -56,7 +56,7 @@ impl<'a> ChunkDrawer for GouraudTexels<'a> {
     ghost can = { λ c s m serves. serves.0.sample.can };
 }
 
-// A row of a triangle of several colours.
+// Draws a row of a triangle of any colours. It must have no hazard. `ramps` must be those of its paint.
 #[inline(never)]
 pub(crate) fn draw_gouraud_texels<L: Ledger>(
     vram: &mut Vram,

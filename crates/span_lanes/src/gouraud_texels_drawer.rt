@@ -1,4 +1,4 @@
-// A pen for rows of several colours by the coordinates of their texels.
+// The drawer of texels by coordinates under several colours, for triangles.
 ghost use Rattle.span_lanes.specs.BlockDrawer.{SuitsMethod};
 ghost use Rattle.span_lanes.specs.declared.block_drawer.RowMethod.TheVariants.{GouraudTexels};
 ghost use Rattle.span_lanes.specs.declared.span.Paint.TheVariants.{TexturedTri};
@@ -13,10 +13,10 @@ use std::marker::Model;
 use std::sync::ledger::Ledger;
 use vram_store::{Steps, Vram};
 
-/// Texels by their coordinates, under several colours.
+/// Draws the texels of a triangle of several colours. Computes the coordinates and the colour of each texel.
 #[derive(Drop)]
 pub struct GouraudTexelsDrawer {
-    // the last span that was drawn; at first one of no cells
+    // the last drawn span; at first a span without cells
     span: Span,
     texture: Texture,
     ramps: AttributeRamps,
@@ -39,7 +39,8 @@ impl GouraudTexelsDrawer {
     ghost use Rattle.std.specs.Prelude.{◌≡◌};
     ghost use Rattle.span_lanes.specs.ClipRect.{new_view_in_clip};
 
-    /// A pen for a triangle, a texture and a brush in a block.
+    /// Returns the drawer of a textured triangle with these pixel settings in a clip rectangle. The drawer's method
+    /// must suit them; each that [`row_method`](crate::row_method) returns does.
     #[inline(always)]
     pub fn new(
         tri: &Tri,

@@ -1,4 +1,4 @@
-// Whether a textured chunk reads what it writes.
+// Hazards of textured chunks.
 ghost use Rattle.std.specs.Prelude.{◌≡◌, ◌≤◌, ◌+◌, ◌↔◌, IsTrue};
 ghost use Rattle.overlap_guard.specs.Hazard.{HasTextureHazard, has_texture_hazard};
 ghost use Rattle.texel_lanes.specs.Texture.{IsTexture};
@@ -42,7 +42,9 @@ fn strip_of(clut: u16, n: u16) -> Strip
     }
 }
 
-// Whether k cells from `to` on, whose texels have these coordinates, read what they write.
+// Returns whether a chunk has a hazard: a cell reads as its texel one that an earlier cell writes, or is a cell of the
+// palette. The chunk has `k` cells, 1 to 16, from `to` on, and does not pass the end of the row. `at` has the
+// coordinates of their texels.
 #[inline(always)]
 pub(crate) fn reads_itself(texture: &Texture, at: &Coordinates, to: Cell, k: u8) -> bool
     requires texture { IsTexture texture.now }

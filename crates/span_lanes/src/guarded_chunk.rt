@@ -1,4 +1,4 @@
-// Spans of texels by their coordinates, part by part.
+// Textured chunks that are tested for a hazard before they are drawn.
 ghost use Rattle.std.specs.Prelude.{◌≡◌, ◌+◌, false};
 ghost use Rattle.span_lanes.specs.Draws.{CanDraw, DrawsChunk, IsChunk, at_stage};
 ghost use Rattle.span_lanes.specs.Guard.{HasHazard, has_hazard};
@@ -20,7 +20,8 @@ use std::sync::ledger::Ledger;
 use texel_lanes::{Coordinates, OneByOne, read_texels};
 use vram_store::{Steps, Vram};
 
-// Whether a part reads what it writes, which is not asked where it is known that none of the span does.
+// Returns whether a chunk has a hazard. It is not tested if the span is known to have none. `at` has the coordinates of
+// the texels.
 #[inline(always)]
 fn has_hazard(row_setup: &RowSetup, at: &Coordinates, chunk: &Chunk) -> bool
     requires span { IsSpan chunk.now.span.now }
@@ -38,7 +39,7 @@ fn has_hazard(row_setup: &RowSetup, at: &Coordinates, chunk: &Chunk) -> bool
     !row_setup.hazard_free && reads_itself(&row_setup.texture, at, to, chunk.k)
 }
 
-// A part by its coordinates: at once where it does not read what it writes.
+// Draws a chunk whose texels have the coordinates `at`: cell after cell if it has a hazard, otherwise at once.
 #[inline(never)]
 fn draw_guarded<L: Ledger>(
     vram: &mut Vram,

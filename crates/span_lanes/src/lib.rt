@@ -1,9 +1,15 @@
-//! Rows of pixels, sixteen cells at a time.
+//! Spans: rows of cells, drawn up to sixteen cells at a time.
 //!
-//! A span is some cells of one row that are drawn from left to right. Every pixel reads video memory as it is
-//! then (our own rule): its own cell where it is blended, its texel, and the entry of the palette. A chunk of
-//! up to sixteen cells in which no cell reads what an earlier one writes is read as a whole and stored at
-//! once; all others are drawn cell after cell. So the outcome is always that of one cell after another.
+//! A span is one or more consecutive cells of a row, drawn from left to right. Every pixel reads video memory as it is
+//! when that pixel is drawn (our own rule). It reads its own cell if it is blended or tested, its texel, and the
+//! palette (CLUT) entry of the texel.
+//!
+//! A span is cut from its left into chunks of sixteen cells; the last may be shorter. A chunk has a hazard if one of
+//! its cells is in the palette, or contains the texel of a later cell of the chunk. A chunk without a hazard is read as
+//! a whole and stored at once. Other chunks are drawn cell after cell. So the result always equals that of drawing one
+//! cell after another.
+//!
+//! Pixels are opaque if they are neither blended nor tested, and the mask setting does not force their bit 15.
 #![tactic(auto)]
 
 mod attribute_ramps;

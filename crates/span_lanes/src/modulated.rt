@@ -1,4 +1,4 @@
-// What colours make of texels.
+// Modulation of texels by colours.
 ghost use Rattle.std.specs.Prelude.{◌≡◌, ◌&&◌, not, pos, length, slice_index};
 ghost use Rattle.px_num.specs.Lanes.{EachLane};
 ghost use Rattle.span_lanes.specs.Draws.{IsChunk};
@@ -12,7 +12,7 @@ use crate::color_lanes::{DitherLanes, modulated_by, no_dither, one_color};
 use crate::color_source::ColorSource;
 use std::simd::prelude::*;
 
-// What one colour makes of sixteen texels, without dither.
+// Returns sixteen texels, modulated by one colour without dither, or unchanged if `raw` is true.
 #[inline(always)]
 #[tactic(auto, unfolding(crate::specs::Shade::modulated_texel))]
 pub(crate) fn modulated_entries(raw: bool, color: u32, texels: u16x16) -> u16x16
@@ -27,7 +27,8 @@ pub(crate) fn modulated_entries(raw: bool, color: u32, texels: u16x16) -> u16x16
     }
 }
 
-// What the colours of a span make of the texels of a part.
+// Returns the texels of a chunk, modulated by the colours of its span, or unchanged if the texture is raw.
+// `dither_lanes` are the dither offsets from the span's first cell on.
 #[inline(always)]
 pub(crate) fn modulated_texels<H: ColorSource>(
     texture: &Texture,

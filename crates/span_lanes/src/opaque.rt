@@ -1,9 +1,9 @@
-// Spans whose pixels are stored as they are.
+// Spans of opaque pixels.
 ghost use Rattle.std.specs.Prelude.{◌≡◌, IsTrue, false};
 
 use crate::{Brush, Span};
 
-// Whether pixels are neither blended nor tested, and no bit is set.
+// Returns whether pixels are opaque: neither blended nor tested, and without a forced bit 15.
 #[inline(always)]
 pub(crate) fn is_opaque(brush: &Brush) -> bool
     ensures mask { IsTrue result → brush.now.mask ≡ 0 }
@@ -12,7 +12,7 @@ pub(crate) fn is_opaque(brush: &Brush) -> bool
     brush.mask == 0 && !brush.semi
 }
 
-// A brush of which that is known.
+// Returns the same pixel settings, which must be opaque. The compiler then knows this.
 #[inline(always)]
 pub(crate) fn opaque_brush(brush: &Brush) -> Brush
     requires mask { brush.now.mask ≡ 0 }
@@ -26,7 +26,7 @@ pub(crate) fn opaque_brush(brush: &Brush) -> Brush
     }
 }
 
-// A span of which that is known: such spans have loops of their own.
+// Returns the same span, whose pixels must be opaque. The compiler then knows this, and makes a separate loop.
 #[inline(always)]
 pub(crate) fn opaque(span: &Span) -> Span
     requires mask { span.now.brush.mask ≡ 0 }

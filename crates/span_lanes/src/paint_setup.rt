@@ -1,4 +1,4 @@
-// Paints made ready.
+// Setups of paints.
 ghost use Rattle.span_lanes.specs.PaintSetup.{IsPaintSetup};
 ghost use Rattle.span_lanes.specs.declared.span.Paint.TheVariants.{Flat};
 
@@ -8,20 +8,20 @@ use crate::texel_row::TexelRow;
 use crate::triangle_setup::{TriangleSetup, triangle_setup_of};
 use crate::{Brush, Paint};
 
-// What is one for all spans of a paint and a brush.
+// What all spans with one paint and the same pixel settings share.
 #[derive(Clone, Copy)]
 pub(crate) enum PaintSetup {
-    // one halfword for all cells, whatever they hold
+    // all cells become one halfword, whatever their values
     Solid { h: u16 },
     // colours without a texture
     Untextured { shading: Shading },
-    // a triangle with a texture
+    // a textured triangle
     Tri { setup: TriangleSetup },
     // a row of texels
     Row { row: TexelRow },
 }
 
-// One colour.
+// Returns the setup of one colour: the halfword if all cells become the same one, else the colour.
 fn flat_setup(color: u32, brush: &Brush) -> PaintSetup
     ensures { IsPaintSetup (record { paint = Flat color; brush = brush.now }) result }
 {
@@ -33,7 +33,7 @@ fn flat_setup(color: u32, brush: &Brush) -> PaintSetup
     }
 }
 
-// A paint and a brush made ready.
+// Returns the setup of a paint with these pixel settings.
 pub(crate) fn paint_setup_of(paint: &Paint, brush: &Brush) -> PaintSetup
     ensures { IsPaintSetup (record { paint = paint.now; brush = brush.now }) result }
 {

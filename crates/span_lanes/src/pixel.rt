@@ -1,4 +1,4 @@
-// One pixel of a span.
+// The pixel of one cell of a span.
 ghost use Rattle.std.specs.Prelude.{◌≡◌, ◌≤◌, ◌<◌, ◌+◌, pos, IsTrue};
 ghost use Rattle.blend_dither.specs.Color.{IsShift};
 ghost use Rattle.edge_walk.specs.Triangle.{is_inside};
@@ -76,7 +76,8 @@ fn texel_pixel(brush: &Brush, raw: bool, color: u32, shift: i8, back: u16, t: u1
     }
 }
 
-// An attribute of a triangle at a cell inside.
+// Returns an attribute of a triangle at the cell (`x`, `y`), which must be inside. `which` is 0 to 2 for red, green and
+// blue, 3 for u, and 4 for v.
 pub(crate) fn attribute_of(tri: &Tri, which: u8, x: u16, y: u16) -> u8
     requires which { which ≤ 4 }
     requires inside { IsTrue (is_inside tri.now (pos x) (pos y)) }
@@ -96,7 +97,8 @@ fn color_of(tri: &Tri, x: u16, y: u16) -> u32
     red + 256 * green + 65536 * blue
 }
 
-// The pixel of cell i of a span over the cell's content.
+// Returns the pixel of cell `i` of a span, below `span.n`, or `None` if its texel is 0. `back` must be the cell's
+// value. Costs at most the steps of the texel.
 #[tactic(auto, unfolding(crate::specs::Shade::shade))]
 pub(crate) fn pixel_of<L: Ledger>(
     vram: &Vram,

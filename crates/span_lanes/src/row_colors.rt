@@ -1,4 +1,4 @@
-// The colours of a span.
+// The colours of a span's cells.
 ghost use Rattle.std.specs.Prelude.{◌+◌, ◌*◌, ℕ, pos, IsTrue};
 ghost use Rattle.edge_walk.specs.Line.{line_value};
 ghost use Rattle.edge_walk.specs.Plane.{IsPlane};
@@ -16,7 +16,7 @@ use crate::color_source::ColorSource;
 use crate::shading::Shading;
 use edge_walk::{Plane, RowLine};
 
-// The colours of the cells of a span: one, or three channels along the row.
+// The colours of a span's cells: one, or three channels along the row.
 #[derive(Clone, Copy)]
 pub(crate) enum RowColors {
     One {
@@ -29,7 +29,8 @@ pub(crate) enum RowColors {
     },
 }
 
-// An attribute of a triangle from a cell inside to the right.
+// Returns the values of an attribute's plane along row `y`, from column `x` to the right. The cell (`x`, `y`) must be
+// inside the triangle.
 #[inline(always)]
 pub(crate) fn line_of(plane: &Plane, x: u16, y: u16) -> RowLine
     ensures { (tri : Corners) (which : ℕ)
@@ -50,7 +51,7 @@ fn triangle_lines(red: &Plane, green: &Plane, blue: &Plane, x: u16, y: u16) -> R
     }
 }
 
-// The colours of a span.
+// Returns the colours of a span's cells. `shading` must be that of its paint.
 #[inline(always)]
 pub(crate) fn row_colors_of(span: &Span, shading: &Shading) -> RowColors
     requires span { IsSpan span.now }
@@ -76,7 +77,7 @@ fn line_colors(red: &RowLine, green: &RowLine, blue: &RowLine, first: u16) -> Co
     }
 }
 
-// The colours of sixteen cells from cell `first` on.
+// Returns the colours of the sixteen cells from cell `first` on.
 #[inline(always)]
 pub(crate) fn color_lanes_of(row_colors: &RowColors, first: u16) -> ColorLanes
     ensures { HasColors (λ j. color_at_cell row_colors.now first j) 16 result.red result.green result.blue }

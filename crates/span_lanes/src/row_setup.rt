@@ -1,4 +1,4 @@
-// What is chosen once for all chunks of a textured span.
+// What all chunks of a textured span share.
 ghost use Rattle.std.specs.Prelude.{◌≡◌, Some};
 ghost use Rattle.span_lanes.specs.Shade.{IsSpan, texture_of};
 ghost use Rattle.span_lanes.specs.RowColors.{AreRowColors};
@@ -21,7 +21,7 @@ pub(crate) struct RowSetup {
     pub(crate) texture: Texture,
     pub(crate) shading: RowShading,
     pub(crate) coords: TexCoords,
-    // whether the span is known to read nothing that it writes
+    // true only if the span has no hazard
     pub(crate) hazard_free: bool,
 }
 
@@ -46,7 +46,7 @@ fn row_setup_with(
     }
 }
 
-// The plan of a row of texels.
+// Returns the setup of a row of texels. `row` must be the span's paint.
 #[inline(always)]
 pub(crate) fn rectangle_row_setup(span: &Span, row: &TexelRow) -> RowSetup
     requires span { IsSpan span.now }
@@ -68,7 +68,7 @@ pub(crate) fn rectangle_row_setup(span: &Span, row: &TexelRow) -> RowSetup
     )
 }
 
-// The plan of a row of a triangle.
+// Returns the setup of a row of a textured triangle. `setup` must be that of the span.
 #[inline(always)]
 pub(crate) fn triangle_row_setup(span: &Span, setup: &TriangleSetup) -> RowSetup
     requires span { IsSpan span.now }

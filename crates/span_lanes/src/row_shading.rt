@@ -1,4 +1,4 @@
-// The colours of a textured span.
+// The colours and dither offsets of a textured span.
 ghost use Rattle.std.specs.Prelude.{◌≡◌, ◌&&◌, not, false, IsTrue};
 ghost use Rattle.span_lanes.specs.RowColors.{AreRowColors};
 ghost use Rattle.span_lanes.specs.RowSetup.{IsRowShading};
@@ -8,7 +8,7 @@ use crate::color_lanes::{DitherLanes, dither_lanes_of};
 use crate::row_colors::RowColors;
 use crate::{Brush, Span, Texture};
 
-// The colours of the cells of a span, and their dither offsets.
+// The colours of a span's cells, and the dither offsets from its first cell on.
 #[derive(Clone, Copy)]
 pub(crate) struct RowShading {
     pub(crate) row_colors: RowColors,
@@ -21,7 +21,8 @@ pub(crate) fn is_dithered(dither: bool, raw: bool) -> bool
     dither && !raw
 }
 
-// Whether a texture has a palette of sixteen entries of which one colour makes the same in all cells.
+// Returns whether texels have four bits and are not dithered. Then a palette entry under one colour is the same in all
+// cells.
 #[inline(always)]
 pub(crate) fn has_undithered_clut16(texture: &Texture, brush: &Brush) -> bool
     ensures depth { IsTrue result → texture.now.page.depth ≡ 0 }

@@ -1,4 +1,4 @@
-// Where texels are found.
+// Samplers: sources of the texels of a span.
 ghost use Rattle.std.specs.Prelude.{◌≡◌, ◌≤◌, ◌+◌, ◌*◌};
 ghost use Rattle.texel_lanes.specs.Texture.{texel_steps};
 ghost use Rattle.span_lanes.specs.Draws.{CanSample, IsChunk};
@@ -11,7 +11,7 @@ use std::simd::prelude::*;
 use std::sync::ledger::Ledger;
 use vram_store::{Steps, Vram};
 
-// A texture, and what finds texels in it.
+// A texture with its sampler.
 #[derive(Clone, Copy)]
 pub(crate) struct BoundSampler<'a, S> {
     pub(crate) texture: &'a Texture,
@@ -26,7 +26,7 @@ pub(crate) fn sampler_of<S>(texture: &Texture, sampler: S) -> BoundSampler<'_, S
     BoundSampler { texture, sampler }
 }
 
-// A texture under one colour, and what finds texels in it.
+// A texture under one colour, with its sampler.
 #[derive(Clone, Copy)]
 pub(crate) struct FlatTexels<'a, S> {
     pub(crate) texture: &'a Texture,
@@ -34,12 +34,12 @@ pub(crate) struct FlatTexels<'a, S> {
     pub(crate) sampler: S,
 }
 
-// How the texels of a span are found, part by part.
+// Reads the texels of a span, chunk by chunk.
 pub(crate) trait Sampler {
     ghost use Rattle.span_lanes.specs.declared.span.Span.{Span};
     ghost use Rattle.texel_lanes.specs.declared.texture.Texture.{Texture};
 
-    // Holds where it finds the texels of a span in a texture.
+    // The sampler reads the texels of this span in this texture.
     ghost finds: { Self → Span → Texture → Type 0 };
 
     fn read_texels<L: Ledger>(
@@ -56,7 +56,7 @@ pub(crate) trait Sampler {
         ensures cost { steps.new ≤ steps.old + texel_steps texture.now.page.depth * chunk.now.k };
 }
 
-// How the indexes of texels of four bits are found.
+// Reads the palette indexes of a span's four-bit texels, chunk by chunk.
 pub(crate) trait IndexSampler {
     ghost use Rattle.span_lanes.specs.declared.span.Span.{Span};
     ghost use Rattle.texel_lanes.specs.declared.texture.Texture.{Texture};

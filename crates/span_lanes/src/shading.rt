@@ -6,7 +6,7 @@ ghost use Rattle.span_lanes.specs.declared.shading.Shading.TheVariants.{OneColor
 
 use edge_walk::{Divisor, Plane, Tri};
 
-// One colour, or three channels over a triangle.
+// One colour, or the planes of the three channels over a triangle.
 #[derive(Clone, Copy)]
 pub(crate) enum Shading {
     OneColor {
@@ -31,7 +31,7 @@ fn gouraud_planes(tri: &Tri, divisor: &Divisor) -> Shading
     }
 }
 
-// The colour of all cells of a triangle, where it is seen that they have one.
+// Returns the colour of all cells of a triangle if its vertices have the same colour, else `None`.
 #[inline(always)]
 pub(crate) fn one_color(tri: &Tri) -> Option<u32>
     ensures { IfSome result (λ color. IsShadingOf tri.now (OneColor color)) }

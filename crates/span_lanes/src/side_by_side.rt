@@ -1,4 +1,4 @@
-// Texels that stand side by side in a row of video memory, read by their depth.
+// Samplers of contiguous texels, one for each depth.
 use crate::Texture;
 use crate::chunk::Chunk;
 use crate::sampler::{IndexSampler, Sampler};
@@ -11,7 +11,7 @@ use texel_lanes::{
 };
 use vram_store::{Steps, Vram};
 
-// Texels of four bits that stand side by side.
+// Contiguous texels of four bits.
 #[derive(Clone, Copy)]
 pub(crate) struct FourBitRun {
     pub(crate) texel_run: TexelRun,
@@ -38,7 +38,7 @@ impl Sampler for FourBitRun {
     }
 }
 
-// Texels of eight bits that stand side by side.
+// Contiguous texels of eight bits.
 #[derive(Clone, Copy)]
 pub(crate) struct EightBitRun {
     pub(crate) texel_run: TexelRun,
@@ -64,7 +64,7 @@ impl Sampler for EightBitRun {
     }
 }
 
-// Texels of fifteen bits that stand side by side.
+// Contiguous texels of fifteen bits.
 #[derive(Clone, Copy)]
 pub(crate) struct FifteenBitRun {
     pub(crate) texel_run: TexelRun,

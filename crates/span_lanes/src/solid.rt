@@ -17,14 +17,15 @@ use std::sync::ledger::Ledger;
 use vram_store::mask::force;
 use vram_store::{Steps, Vram};
 
-// Whether one colour is one halfword, whatever the cells hold and wherever they are.
+// Returns whether a colour becomes the same halfword in all cells: pixels are not blended, tested or dithered.
 fn is_even(brush: &Brush) -> bool
     ensures { result ≡ (not (brush.now.semi || is_testing brush.now.mask) && not brush.now.dither) }
 {
     !reads_back(brush) && !brush.dither
 }
 
-// What each cell becomes under one colour, where it is one halfword whatever the cells hold.
+// Returns the halfword that each cell becomes under one colour. Returns `None` if pixels are blended, tested or
+// dithered.
 pub(crate) fn solid_color(brush: &Brush, color: u32) -> Option<u16>
     ensures { IfSome result (λ h. (x y n : ℕ)
         → IsSolid (record { x = x; y = y; n = n; paint = Flat color; brush = brush.now }) h) }
@@ -36,7 +37,8 @@ pub(crate) fn solid_color(brush: &Brush, color: u32) -> Option<u16>
     }
 }
 
-/// The halfword that each cell becomes, where there is one whatever they hold.
+/// Returns the halfword that each cell becomes, whatever its value. Returns `None` unless the paint is one colour and
+/// pixels are not blended, tested or dithered.
 pub fn solid_of(paint: &Paint, brush: &Brush) -> Option<u16>
     ensures { HasHalfword paint.now brush.now result }
 {
@@ -46,7 +48,7 @@ pub fn solid_of(paint: &Paint, brush: &Brush) -> Option<u16>
     }
 }
 
-// A halfword that each cell becomes.
+// The halfword that each cell becomes.
 #[derive(Clone, Copy)]
 pub(crate) struct Solid {
     pub(crate) h: u16,
@@ -68,7 +70,8 @@ impl ChunkDrawer for Solid {
     ghost can = { λ c s m serves. serves.can };
 }
 
-/// Draws the cells of a span that all become one halfword, as [`draw_span`](crate::draw_span) does.
+/// Draws a span as [`draw_span`](crate::draw_span) does, under the same conditions. All its cells must become the
+/// halfword `h`, whatever their values.
 #[inline(always)]
 pub fn draw_solid<L: Ledger>(vram: &mut Vram, span: &Span, h: u16, steps: &mut Steps<L>)
     requires span { IsSpan span.now }

@@ -1,4 +1,4 @@
-// What a span is.
+// Spans, and what their cells are drawn with.
 ghost use Rattle.std.specs.Prelude.{◌≡◌};
 ghost use Rattle.span_lanes.specs.SpanDrawer.{state_of};
 ghost use Rattle.span_lanes.specs.declared.span.Paint.TheVariants.{TexturedTri};
@@ -6,20 +6,21 @@ ghost use Rattle.span_lanes.specs.declared.span.Paint.TheVariants.{TexturedTri};
 use edge_walk::Tri;
 use texel_lanes::Texture;
 
-/// How pixels come to cells.
+/// Pixel settings: how pixels are written to their cells.
 #[derive(Clone, Copy)]
 pub struct Brush {
-    /// The mask setting, 0 to 3: bit 0 sets bit 15 of what is written, bit 1 keeps the cells whose bit 15 is 1.
+    /// The mask setting, 0 to 3. Bit 0 forces bit 15 of written halfwords to 1. Bit 1 protects the cells whose bit 15
+    /// is 1.
     pub mask: u8,
     /// The blending mode, 0 to 3.
     pub mode: u8,
-    /// Whether pixels are semi-transparent; of a texture those alone whose texel has bit 15.
+    /// Whether pixels are semi-transparent. With a texture, only those are whose texel has bit 15 set.
     pub semi: bool,
     /// Whether colours are dithered. Raw texels never are.
     pub dither: bool,
 }
 
-/// What the cells of a span are drawn with. A colour has red in bits 0 to 7, green in 8 to 15 and blue in 16 to 23.
+/// The colour source of a span's cells. A colour has red in bits 0 to 7, green in 8 to 15 and blue in 16 to 23.
 #[derive(Clone, Copy)]
 pub enum Paint {
     /// One colour.
@@ -29,17 +30,17 @@ pub enum Paint {
     },
     /// The colours of a triangle.
     Shaded {
-        /// The triangle, inside of which all cells lie.
+        /// The triangle. All cells must be inside it.
         tri: Tri,
     },
-    /// Texels at the coordinates of a triangle, under its colours.
+    /// Texels at the coordinates of a triangle, modulated by its colours unless raw.
     TexturedTri {
-        /// The triangle, inside of which all cells lie.
+        /// The triangle. All cells must be inside it.
         tri: Tri,
         /// The texture.
         texture: Texture,
     },
-    /// Texels of one row of a page, under one colour.
+    /// Texels of one row of a page, modulated by one colour unless raw.
     TexturedRow {
         /// The colour.
         color: u32,
@@ -49,45 +50,45 @@ pub enum Paint {
         u: u8,
         /// The row of the texels.
         v: u8,
-        /// Whether the column falls by one from cell to cell, instead of rising by one; it wraps at 256.
+        /// Whether the column decreases by 1 from cell to cell, instead of increasing by 1. It wraps at 256.
         flip: bool,
     },
 }
 
-/// A paint and a brush: what the cells of a primitive are drawn with.
+/// The draw state of a primitive: the colour source and the pixel settings of its cells.
 #[derive(Clone, Copy)]
 pub struct DrawState {
-    /// The colours or texels.
+    /// The colour source.
     pub paint: Paint,
-    /// How the pixels come to the cells.
+    /// The pixel settings.
     pub brush: Brush,
 }
 
-/// Cells of a row, side by side.
+/// Consecutive cells of a row.
 #[derive(Clone, Copy)]
 pub struct Run {
     /// The first column.
     pub x: u16,
-    /// How many cells, at least 1.
+    /// The number of cells, at least 1.
     pub n: u16,
 }
 
-/// Cells of one row, from (x, y) to the right.
+/// Consecutive cells of one row, with what they are drawn with.
 #[derive(Clone, Copy)]
 pub struct Span {
     /// The column of the first cell.
     pub x: u16,
     /// The row.
     pub y: u16,
-    /// How many cells, at least 1; `x + n` is at most 1024.
+    /// The number of cells, at least 1. `x + n` is at most 1024.
     pub n: u16,
-    /// What they are drawn with.
+    /// The colour source of the cells.
     pub paint: Paint,
-    /// How their pixels come to them.
+    /// The pixel settings of the cells.
     pub brush: Brush,
 }
 
-/// A span of a triangle that has no cells yet.
+/// Returns a span of a textured triangle that has no cells yet.
 #[inline(always)]
 pub(crate) fn empty_span(tri: &Tri, texture: &Texture, brush: &Brush) -> Span
     ensures { state_of result ≡ record { paint = TexturedTri tri.now texture.now; brush = brush.now } }

@@ -1,4 +1,4 @@
-// A paint made ready.
+// The drawer of spans with any draw state.
 ghost use Rattle.vram_store.specs.Vram.{height_of};
 ghost use Rattle.span_lanes.specs.SpanDrawer.{DrawsCells, state_of};
 ghost use Rattle.span_lanes.specs.Shade.{IsSpan, LiesIn};
@@ -11,13 +11,13 @@ use std::marker::Model;
 use std::sync::ledger::Ledger;
 use vram_store::{Steps, Vram};
 
-/// A paint and a brush for the spans of a primitive: what is one for all of them is reckoned once.
+/// Draws the spans of a primitive, which have the same draw state. What they share is computed once.
 #[derive(Drop)]
 pub struct SpanDrawer {
-    // the last span that was drawn; at first one of no cells
+    // the last drawn span; at first a span without cells
     span: Span,
     ready: PaintSetup,
-    // the palette that was seen, and what a colour makes of it
+    // the palette, modulated by a colour, if it is cached
     last: Option<ColoredClut>,
 }
 
@@ -38,7 +38,7 @@ impl SpanDrawer {
     ghost use Rattle.span_lanes.specs.SpanDrawer.{state_span, new_drawer, DrawsCells, IsClutFresh};
     ghost use Rattle.span_lanes.specs.Shade.{IsSpan, LiesIn};
 
-    /// A coat made ready.
+    /// Returns a drawer with this draw state.
     #[inline(always)]
     pub fn new(state: &DrawState) -> SpanDrawer
         ensures { result ≡ new_drawer state.now }
@@ -56,7 +56,8 @@ impl SpanDrawer {
         }
     }
 
-    /// Draws cells of row y, as [`draw_span`] does.
+    /// Draws the cells of `run` in row `y`, as [`draw_span`] does. The cached palette, if any, must equal the one in
+    /// video memory; after the call it does so again.
     #[inline(always)]
     #[tactic(auto, using(crate::proofs::ColoredClutLemmas::kept_of_fresh, crate::proofs::ColoredClutLemmas::fresh_of_kept))]
     pub fn draw<L: Ledger>(&mut self, vram: &mut Vram, run: Run, y: u16, steps: &mut Steps<L>)
@@ -77,17 +78,22 @@ impl SpanDrawer {
 
 /// Draws the cells of a span from left to right.
 ///
-/// The outcome is that of one cell after another: each takes its pixel from video memory as it is then, also
-/// where its texel or its palette lies in the span itself, and is plotted under the mask setting. All other
-/// cells stay.
+/// The result equals that of drawing one cell after another. Each pixel is computed from video memory as it is then,
+/// even if its texel or palette is in the span itself. It is plotted under the mask setting. Other cells keep their
+/// values.
 ///
-/// The span is cut from its left into chunks of sixteen cells and a last one. A chunk of k cells takes at most
-/// `2 + d * k` steps where no cell reads what an earlier one of the chunk writes, and else `(d + 2) * k`; d is
-/// 0 without a texture, 2 where the texture has a palette, and else 1.
+/// The span is cut from its left into chunks of sixteen cells; the last may be shorter. A chunk of `k` cells costs at
+/// most `2 + d * k` steps, or `(d + 2) * k` if it has a hazard. It has one if one of its cells is in the palette, or
+/// contains the texel of a later cell of the chunk. `d` is 0 without a texture, 2 if the texture has a palette, and
+/// otherwise 1.
 ///
-/// The span's row and all rows of its texture page must lie in video memory, the setting and the mode be at
-/// most 3, page and window be such as [`texture_page::texel_cell`] takes, and all cells be inside of the
-/// paint's triangle, where it has one.
+/// Requires:
+///
+/// 1. the span has at least one cell and does not pass the end of its row;
+/// 2. its row and all rows of its texture page are in video memory;
+/// 3. mask setting and blending mode are at most 3;
+/// 4. page and window are within their limits, as [`texture_page::texel_cell`] requires;
+/// 5. all cells are inside the paint's triangle, if it has one.
 pub fn draw_span<L: Ledger>(vram: &mut Vram, span: &Span, steps: &mut Steps<L>)
     requires span { IsSpan span.now }
     requires height { LiesIn (height_of vram.old) span.now }

@@ -1,4 +1,4 @@
-// Parts that are stored at once, and cell after cell.
+// Chunks that are stored at once, or drawn cell after cell.
 ghost use Rattle.std.specs.Prelude.{◌≡◌, ◌≤◌, ◌+◌, ◌*◌, length};
 ghost use Rattle.vram_store.specs.Chunk.{AgreesApart};
 ghost use Rattle.span_lanes.specs.Chunk.{chunk_place, drawn_chunk, HasChunk};
@@ -13,7 +13,7 @@ use std::simd::prelude::*;
 use std::sync::ledger::Ledger;
 use vram_store::{Steps, Vram};
 
-// The cells of a part, one after another.
+// Draws the cells of a chunk one after another. Costs at most two steps per cell, plus those of the texels.
 #[inline(never)]
 pub(crate) fn draw_cells<L: Ledger>(vram: &mut Vram, chunk: &Chunk, steps: &mut Steps<L>)
     requires can { CanDraw chunk.now.span.now vram.old }
@@ -27,7 +27,7 @@ pub(crate) fn draw_cells<L: Ledger>(vram: &mut Vram, chunk: &Chunk, steps: &mut 
     }
 }
 
-// Stores the pixels of a part that does not read what it writes.
+// Stores a chunk without a hazard. `lanes` has the values that its cells become. Costs at most one step.
 #[inline(always)]
 pub(crate) fn store_chunk<L: Ledger>(
     vram: &mut Vram,

@@ -1,4 +1,4 @@
-// The texel coordinates of a span.
+// The texel coordinates of a span's cells.
 ghost use Rattle.std.specs.Prelude.{◌≡◌, ◌≤◌, ◌<◌, ◌+◌, ℕ, pos, IsTrue, true, false, slice_index};
 ghost use Rattle.edge_walk.specs.Triangle.{Corners, is_inside};
 ghost use Rattle.span_lanes.specs.Shade.{row_u};
@@ -19,7 +19,8 @@ use std::sync::ledger::Ledger;
 use texel_lanes::Coordinates;
 use vram_store::{Steps, Vram};
 
-// One coordinate of the texels of a span.
+// One texel coordinate along a row: an attribute of a triangle, a column that increases or decreases from `u`, or one
+// value for all cells.
 #[derive(Clone, Copy)]
 pub(crate) enum CoordAlongRow {
     Line { line: RowLine },
@@ -27,14 +28,15 @@ pub(crate) enum CoordAlongRow {
     Same { v: u8 },
 }
 
-// The columns and the rows of the texels of a span within their page.
+// The columns and rows of a span's texels in their page.
 #[derive(Clone, Copy)]
 pub(crate) struct TexCoords {
     pub(crate) u: CoordAlongRow,
     pub(crate) v: CoordAlongRow,
 }
 
-// The texel coordinates of a triangle from a cell inside to the right.
+// Returns the texel coordinates of a triangle along row `y`, from column `x` to the right. The cell (`x`, `y`) must be
+// inside.
 #[inline(always)]
 pub(crate) fn triangle_tex_coords(coord_planes: &CoordPlanes, x: u16, y: u16) -> TexCoords
     ensures u { (tri : Corners)
@@ -52,7 +54,8 @@ pub(crate) fn triangle_tex_coords(coord_planes: &CoordPlanes, x: u16, y: u16) ->
     }
 }
 
-// The columns of sixteen texels that rise from u on, so many cells further.
+// Returns the texel columns of the sixteen cells from cell `first` on. Cell 0 has column `u`, and each next cell 1
+// more. They wrap at 256. `first` is at most 1008.
 #[inline(always)]
 #[tactic(auto, unfolding(crate::specs::Shade::row_u))]
 fn rising_columns(u: u8, first: u16) -> u16x16
@@ -63,7 +66,8 @@ fn rising_columns(u: u8, first: u16) -> u16x16
     low_bits(add(splat(u as u16 + first), ramp()), 8)
 }
 
-// The columns of sixteen texels that fall from u on, so many cells further.
+// Returns the texel columns of the sixteen cells from cell `first` on. Cell 0 has column `u`, and each next cell 1
+// less. They wrap at 256. `first` is at most 1008.
 #[inline(always)]
 #[tactic(auto, unfolding(crate::specs::Shade::row_u))]
 fn falling_columns(u: u8, first: u16) -> u16x16
@@ -74,7 +78,8 @@ fn falling_columns(u: u8, first: u16) -> u16x16
     low_bits(sub_or_zero(splat(u as u16 + 1024 - first), ramp()), 8)
 }
 
-// The columns of sixteen texels of a row, from that of its cell `first` on.
+// Returns the texel columns of the sixteen cells from cell `first` on. Cell 0 has column `u`. They decrease by 1 per
+// cell if `flip` is true, otherwise increase by 1, and wrap at 256. `first` is at most 1008.
 #[inline(always)]
 fn row_columns(u: u8, flip: bool, first: u16) -> u16x16
     requires within { first + 16 ≤ 1024 }
@@ -95,7 +100,7 @@ fn same_rows(v: u8) -> u16x16
     splat(v as u16)
 }
 
-// A coordinate of sixteen texels from that of cell `first` on.
+// Returns one texel coordinate of the sixteen cells from cell `first` on. `first` is at most 1008.
 #[inline(always)]
 fn coord_lanes(along: &CoordAlongRow, first: u16) -> u16x16
     requires within { first + 16 ≤ 1024 }
@@ -109,7 +114,7 @@ fn coord_lanes(along: &CoordAlongRow, first: u16) -> u16x16
     }
 }
 
-// The texel coordinates of sixteen cells from cell `first` on.
+// Returns the texel coordinates of the sixteen cells from cell `first` on. `first` is at most 1008.
 #[inline(always)]
 pub(crate) fn tex_coord_lanes(coords: &TexCoords, first: u16) -> Coordinates
     requires within { first + 16 ≤ 1024 }

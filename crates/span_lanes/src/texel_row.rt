@@ -1,10 +1,11 @@
-// Rows of texels.
+// A row of texels, and its columns.
 ghost use Rattle.std.specs.Prelude.{◌≡◌, ◌≤◌};
 ghost use Rattle.span_lanes.specs.Shade.{row_u};
 
 use crate::Texture;
 
-// A row of texels under one colour, from a column of the page on.
+// Texels of row `v` of a page under one colour. The first has column `u`; the columns decrease if `flip` is true,
+// otherwise increase.
 #[derive(Clone, Copy)]
 pub(crate) struct TexelRow {
     pub(crate) color: u32,
@@ -14,8 +15,8 @@ pub(crate) struct TexelRow {
     pub(crate) flip: bool,
 }
 
-/// The column or the row of a texel so many cells from the first: one more from cell to cell, or one less where it
-/// falls. It wraps at 256.
+/// Returns the column or row of the texel `cells` cells after the first, whose column or row is `first`. It increases
+/// by 1 from cell to cell, or decreases by 1 if `falls` is true, and wraps at 256. `cells` is at most 1024.
 #[inline(always)]
 #[tactic(auto, unfolding(crate::specs::Shade::row_u))]
 pub fn row_u(first: u8, falls: bool, cells: u16) -> u8

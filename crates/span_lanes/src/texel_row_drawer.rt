@@ -1,4 +1,4 @@
-// Pens for rows of texels, one below another.
+// Drawers of rows of texels in a clip rectangle.
 use crate::TexelRows;
 use crate::colored_clut::ColoredClut;
 use crate::draw::draw_row;
@@ -7,16 +7,17 @@ use std::marker::Model;
 use std::sync::ledger::Ledger;
 use vram_store::{Steps, Vram};
 
-/// A pen for rows of texels in the rows of a block.
+/// Draws rows of texels in a clip rectangle.
 pub trait TexelRowDrawer: Drop {
     ghost use Rattle.std.specs.Prelude.{◌≡◌};
     ghost use Rattle.span_lanes.specs.SpanDrawer.{DrawsCells};
     ghost use Rattle.span_lanes.specs.TexelRows.{CanDrawTexels, AreRowsFresh, RowsDrawerView, texel_span};
 
-    // The rows, and the palette that it keeps.
+    // The rows, and the cached palette, if any.
     ghost rows_held: { Self → RowsDrawerView };
 
-    /// Draws row y of the block with the texels of row v of the page, as [`draw_span`](crate::draw_span) does.
+    /// Draws row `y` of the clip rectangle with the texels of row `v` of the page, as [`draw_span`](crate::draw_span)
+    /// does. The cached palette, if any, must equal the one in video memory; after the call it does so again.
     fn draw_row<L: Ledger>(&mut self, vram: &mut Vram, y: u16, v: u8, steps: &mut Steps<L>)
         requires can { CanDrawTexels (rows_held self.old).rows y v vram.old }
         requires fresh { AreRowsFresh (rows_held self.old) vram.old }
@@ -26,13 +27,13 @@ pub trait TexelRowDrawer: Drop {
             (record { m = vram.old; steps = steps.old }) (record { m = vram.new; steps = steps.new }) };
 }
 
-/// Any rows of texels: each is looked at by itself.
+/// Draws any rows of texels. Each row is tested by itself for contiguous texels and hazards.
 #[derive(Drop)]
 pub struct AnyRowsDrawer {
     rows: TexelRows,
-    // the last row that was drawn; at first row 0
+    // the last drawn row; at first row 0 of the page
     row: TexelRow,
-    // the palette that was seen, and what the colour makes of it
+    // the palette, modulated by the colour, if it is cached
     last: Option<ColoredClut>,
 }
 
@@ -50,7 +51,7 @@ impl AnyRowsDrawer {
     ghost use Rattle.std.specs.Prelude.{◌≡◌};
     ghost use Rattle.span_lanes.specs.TexelRows.{new_rows_view};
 
-    /// A pen for these rows.
+    /// Returns the drawer of `rows`.
     #[inline(always)]
     pub fn new(rows: &TexelRows) -> AnyRowsDrawer
         ensures { result ≡ new_rows_view rows.now }

@@ -1,4 +1,4 @@
-// Rows of texels, one below another.
+// Rows of texels in a clip rectangle.
 ghost use Rattle.std.specs.Prelude.{ℕ, ◌≡◌, IsTrue, false};
 ghost use Rattle.texel_lanes.specs.Texture.{IsTexture};
 ghost use Rattle.span_lanes.specs.ClipRect.{IsClipRect};
@@ -13,7 +13,7 @@ use crate::texel_run::{TexelRun, does_not_wrap, is_unwindowed, run_at_coords};
 use crate::texel_run_rows::with_raw;
 use crate::{Brush, ClipRect, Paint, Span, Texture};
 
-/// Rows of texels in the rows of a block of cells, all from one column of their page on.
+/// Rows of texels that fill a clip rectangle. All start at the same column of the page.
 #[derive(Clone, Copy)]
 pub struct TexelRows {
     /// The colour.
@@ -22,16 +22,16 @@ pub struct TexelRows {
     pub texture: Texture,
     /// The column of the first texel of each row.
     pub u: u8,
-    /// Whether the column falls by one from cell to cell, instead of rising by one; it wraps at 256.
+    /// Whether the column decreases by 1 from cell to cell, instead of increasing by 1. It wraps at 256.
     pub flip: bool,
-    /// How the pixels come to the cells.
+    /// The pixel settings.
     pub brush: Brush,
-    /// The cells.
+    /// The clip rectangle.
     pub clip_rect: ClipRect,
 }
 
 impl TexelRows {
-    // Row y of the block, with the texels of row v of the page.
+    // Returns the span of row `y` of the clip rectangle, with the texels of row `v` of the page.
     #[inline(always)]
     pub(crate) fn span(&self, y: u16, v: u8) -> Span
         ensures { result ≡ texel_span self.now y v }
@@ -51,7 +51,7 @@ impl TexelRows {
         }
     }
 
-    // Row v of the page.
+    // Returns the texels of row `v` of the page.
     #[inline(always)]
     pub(crate) fn row_at(&self, v: u8) -> TexelRow
         ensures row { IsRowOf self.now result }
@@ -66,7 +66,8 @@ impl TexelRows {
         }
     }
 
-    // Where the texels of row v of the page stand side by side, for any row of the block.
+    // Returns the run of the texels of row `v` of the page, for any row of the clip rectangle.
+    // [`TexelRows::can_cache_clut`] must be true.
     #[inline(always)]
     pub(crate) fn texel_run(&self, v: u8) -> TexelRun
         requires keeps { CanCacheRows self.now }
@@ -76,9 +77,10 @@ impl TexelRows {
         run_at_coords(&self.texture, self.u, v)
     }
 
-    /// Whether a palette of sixteen entries can be coloured once for all rows, whose texels stand side by side and
-    /// apart from the block. [`CachedClutRowsDrawer`](crate::CachedClutRowsDrawer) draws such rows, and [`AnyRowsDrawer`](crate::AnyRowsDrawer)
-    /// all.
+    /// Returns true only if a palette of sixteen entries can be modulated once for all rows. Their texels are then
+    /// contiguous, and no span in the clip rectangle has a hazard.
+    /// [`CachedClutRowsDrawer`](crate::CachedClutRowsDrawer) draws such rows, [`AnyRowsDrawer`](crate::AnyRowsDrawer)
+    /// any. The clip rectangle must be within 1024 rows, page and window within their limits.
     pub fn can_cache_clut(&self) -> bool
         requires clip_rect { IsClipRect 1024 self.now.clip_rect }
         requires texture { IsTexture self.now.texture }
@@ -95,7 +97,8 @@ impl TexelRows {
             && is_clip_hazard_free(&self.clip_rect, &self.texture)
     }
 
-    /// These rows, of which it is known whether texels are drawn as they are: such rows have loops of their own.
+    /// Returns the same rows. `raw` must be the texture's. The compiler then knows its value, and makes a separate
+    /// loop.
     #[inline(always)]
     pub fn known_raw(&self, raw: bool) -> TexelRows
         requires { self.now.texture.raw ≡ raw }
@@ -107,7 +110,7 @@ impl TexelRows {
         }
     }
 
-    /// Whether pixels are stored as they are: neither blended nor tested, and no bit is set.
+    /// Returns whether pixels are opaque: neither blended nor tested, and without a forced bit 15.
     #[inline(always)]
     pub fn is_opaque(&self) -> bool
         ensures mask { IsTrue result → self.now.brush.mask ≡ 0 }
@@ -116,7 +119,7 @@ impl TexelRows {
         is_opaque(&self.brush)
     }
 
-    /// These rows, of which it is known that pixels are stored as they are, where the brush does that.
+    /// Returns the same rows, whose pixels must be opaque. The compiler then knows this, and makes a separate loop.
     #[inline(always)]
     pub fn known_opaque(&self) -> TexelRows
         requires mask { self.now.brush.mask ≡ 0 }

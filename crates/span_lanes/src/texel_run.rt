@@ -1,4 +1,4 @@
-// Where texels stand side by side in a row of video memory.
+// Contiguous texels: at consecutive columns of one row of video memory.
 ghost use Rattle.std.specs.Prelude.{◌≡◌, ◌≤◌, ◌<◌, ◌+◌, ◌/◌, IfSome, IsTrue};
 ghost use Rattle.texture_page.specs.Page.{windowed};
 ghost use Rattle.texel_lanes.specs.Texture.{IsTexture};
@@ -15,14 +15,15 @@ use crate::triangle_setup::TriangleSetup;
 use crate::{Span, Texture};
 use texture_page::texel_cell;
 
-// The column of the first texel in its page, and the row of video memory that they stand in.
+// A run of contiguous texels: the column of the first in its page, and their row in video memory.
 #[derive(Clone, Copy)]
 pub(crate) struct TexelRun {
     pub(crate) u: u16,
     pub(crate) y: u16,
 }
 
-// Whether the cells of n texels from a column of the page on do not wrap.
+// Returns whether the cells of `n` texels from column `u` of the page on do not wrap. At depths 0 and 1, the sixteen
+// cells from that of the next texel on must not wrap either. `u + n` is at most 256.
 #[inline(always)]
 pub(crate) fn does_not_wrap(texture: &Texture, u: u16, n: u16) -> bool
     requires texture { IsTexture texture.now }
@@ -38,7 +39,8 @@ pub(crate) fn does_not_wrap(texture: &Texture, u: u16, n: u16) -> bool
     }
 }
 
-// Whether a window leaves the columns of n texels as they are, and they do not wrap.
+// Returns whether the window leaves columns unchanged, and the `n` columns from `u` on do not pass the page's last. `n`
+// is at most 1024.
 #[inline(always)]
 pub(crate) fn is_unwindowed(texture: &Texture, u: u8, n: u16) -> bool
     requires row { n ≤ 1024 }
@@ -48,7 +50,7 @@ pub(crate) fn is_unwindowed(texture: &Texture, u: u8, n: u16) -> bool
     texture.window.mask_x == 0 && u as u16 + n <= 256
 }
 
-// The place of a texel by its coordinates, where a window leaves the columns as they are.
+// Returns the run that starts at column `u` and row `v` of the page. The window is applied only to the row.
 #[inline(always)]
 pub(crate) fn run_at_coords(texture: &Texture, u: u8, v: u8) -> TexelRun
     requires texture { IsTexture texture.now }
@@ -62,7 +64,9 @@ pub(crate) fn run_at_coords(texture: &Texture, u: u8, v: u8) -> TexelRun
     }
 }
 
-// Where the texels of a span stand side by side, if they do, by the coordinates of the first.
+// Returns the run of a span's texels, or `None` if they may not be contiguous. The first has the coordinates (`u`,
+// `v`). From cell to cell the column must increase by 1, up to 255, and the row must stay the same. `span.n` is at most
+// 1024.
 #[inline(always)]
 fn run_of_span(span: &Span, texture: &Texture, u: u8, v: u8) -> Option<TexelRun>
     requires texture { IsTexture texture.now }
@@ -77,7 +81,7 @@ fn run_of_span(span: &Span, texture: &Texture, u: u8, v: u8) -> Option<TexelRun>
     }
 }
 
-// Where the texels of a row stand side by side, if they do.
+// Returns the run of a row of texels, or `None` if they may not be contiguous. `row` must be the span's paint.
 #[inline(always)]
 pub(crate) fn rectangle_row_run(span: &Span, row: &TexelRow) -> Option<TexelRun>
     requires span { IsSpan span.now }
@@ -91,7 +95,7 @@ pub(crate) fn rectangle_row_run(span: &Span, row: &TexelRow) -> Option<TexelRun>
     }
 }
 
-// Where the texels of a row of a triangle stand, whose texels stand side by side in all rows.
+// Returns the run of a row of a triangle, whose texels must be contiguous. `setup` must be that of the span.
 #[inline(always)]
 pub(crate) fn triangle_row_run(span: &Span, setup: &TriangleSetup) -> TexelRun
     requires span { IsSpan span.now }

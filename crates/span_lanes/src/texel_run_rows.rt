@@ -1,4 +1,4 @@
-// Rows of texels that stand side by side, and read nothing that they write.
+// Rows of contiguous texels without a hazard.
 ghost use Rattle.std.specs.Prelude.{◌≡◌, true, false};
 ghost use Rattle.span_lanes.specs.Draws.{DrawsSpan, at_stage};
 ghost use Rattle.span_lanes.specs.CachedClut.{CanTakeTexels};
@@ -17,7 +17,7 @@ use crate::{Span, Texture};
 use std::sync::ledger::Ledger;
 use vram_store::{Steps, Vram};
 
-// A texture of which it is known whether it is drawn as it is.
+// Returns the same texture. `raw` must be the texture's. The compiler then knows its value.
 #[inline(always)]
 pub(crate) fn with_raw(texture: &Texture, raw: bool) -> Texture
     requires { texture.now.raw ≡ raw }
@@ -26,7 +26,7 @@ pub(crate) fn with_raw(texture: &Texture, raw: bool) -> Texture
     Texture { raw, ..*texture }
 }
 
-// Texels that are drawn as they are.
+// Draws a span of raw texels. It must have no hazard.
 #[inline(never)]
 fn draw_raw<S: Sampler + Copy, L: Ledger>(
     vram: &mut Vram,
@@ -46,7 +46,8 @@ fn draw_raw<S: Sampler + Copy, L: Ledger>(
     draw_by_brush(vram, span, &raw, steps);
 }
 
-// Texels under their colours.
+// Draws a span of texels, modulated by the colours of `shading`. It must have no hazard, and the texture must not be
+// raw.
 #[inline(never)]
 fn draw_shaded<S: Sampler + Copy, L: Ledger>(
     vram: &mut Vram,
@@ -69,7 +70,7 @@ fn draw_shaded<S: Sampler + Copy, L: Ledger>(
     draw_by_brush(vram, span, &shaded, steps);
 }
 
-// A row, by whether its texels are drawn as they are.
+// Draws a span of texels by one of two loops: raw or modulated. It must have no hazard.
 #[inline(always)]
 fn draw_by_raw<S: Sampler + Copy, L: Ledger>(
     vram: &mut Vram,
@@ -90,7 +91,8 @@ fn draw_by_raw<S: Sampler + Copy, L: Ledger>(
     }
 }
 
-// A row, by how many bits a texel has.
+// Draws a span of contiguous texels by a loop for their depth. It must have no hazard. `shading` must be that of its
+// paint.
 #[inline(always)]
 pub(crate) fn draw_texel_run<L: Ledger>(
     vram: &mut Vram,

@@ -1,4 +1,4 @@
-// Spans of texels that read nothing that they write.
+// Chunk drawers of textured spans without a hazard.
 use crate::Texture;
 use crate::chunk::Chunk;
 use crate::chunk_loop::ChunkDrawer;
@@ -9,14 +9,14 @@ use crate::textured::{draw_shaded, draw_texels};
 use std::sync::ledger::Ledger;
 use vram_store::{Steps, Vram};
 
-// Texels as they are.
+// Draws raw texels.
 #[derive(Clone, Copy)]
 pub(crate) struct Raw<S> {
     pub(crate) texture: Texture,
     pub(crate) sampler: S,
 }
 
-// Texels under colours.
+// Draws texels, modulated by their colours unless raw.
 #[derive(Clone, Copy)]
 pub(crate) struct Shaded<S> {
     pub(crate) texture: Texture,
@@ -24,7 +24,7 @@ pub(crate) struct Shaded<S> {
     pub(crate) shading: RowShading,
 }
 
-// Texels of four bits, whose palette was read and coloured before.
+// Draws four-bit texels with a palette that was read and modulated before.
 #[derive(Clone, Copy)]
 pub(crate) struct CachedClut<'a, S> {
     pub(crate) texture: Texture,
@@ -76,7 +76,7 @@ impl<S: IndexSampler> ChunkDrawer for CachedClut<'_, S> {
 
     ghost serves = { λ c s m. CanUseCached s c.texture (S.finds c.sampler s c.texture) c.colored_clut.now m };
 
-    // The palette's entries are not read again.
+    // The palette is not read again.
     ghost spared = { λ c. 1 };
 
     #[inline(always)]

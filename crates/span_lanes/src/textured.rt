@@ -1,4 +1,4 @@
-// Textured chunks, all their lanes at once.
+// Textured chunks without a hazard, drawn as a whole.
 ghost use Rattle.std.specs.Prelude.{◌≡◌, ◌≤◌, ◌+◌};
 ghost use Rattle.std.specs.Prelude.{length, slice_index};
 ghost use Rattle.px_num.specs.Lanes.{EachLane};
@@ -22,7 +22,8 @@ use std::sync::ledger::Ledger;
 use vram_store::mask::{force_lanes, over_lanes};
 use vram_store::{Steps, Vram};
 
-// What sixteen cells become where these halfwords of texels are written over them: a texel of 0 draws nothing.
+// Returns the values of sixteen cells after the halfwords `plotted` of their texels are written over them under the
+// mask setting. A texel of 0 changes nothing.
 #[inline(always)]
 fn drawn_over(mask: u8, cells: u16x16, texels: u16x16, plotted: u16x16) -> u16x16
     requires long { (length cells ≡ 16) × (length texels ≡ 16) × (length plotted ≡ 16) }
@@ -34,7 +35,8 @@ fn drawn_over(mask: u8, cells: u16x16, texels: u16x16, plotted: u16x16) -> u16x1
     where_equal(texels, splat(0), cells, written)
 }
 
-// What the cells of a part become, by its texels and what colours make of these.
+// Returns the values that a chunk's cells become. `drawn` has its texels, as read and modulated. Costs at most one
+// step.
 #[inline(always)]
 fn blended_texels<L: Ledger>(
     vram: &Vram,
@@ -56,7 +58,7 @@ fn blended_texels<L: Ledger>(
     drawn_over(brush.mask, back, drawn.texels, plotted)
 }
 
-// Draws a part that reads nothing that it writes, by its texels and what colours make of these.
+// Draws a chunk without a hazard. `drawn` has its texels, as read and modulated. Costs at most two steps.
 #[inline(always)]
 pub(crate) fn draw_texels<L: Ledger>(
     vram: &mut Vram,
@@ -77,7 +79,7 @@ pub(crate) fn draw_texels<L: Ledger>(
     store_chunk(vram, chunk, lanes, steps);
 }
 
-// Draws a part by its texels and the colours of the span.
+// Draws a chunk without a hazard. `texels` are its texels, `shading` the colours of its span. Costs at most two steps.
 #[inline(always)]
 pub(crate) fn draw_shaded<L: Ledger>(
     vram: &mut Vram,

@@ -1,4 +1,4 @@
-// Triangles with a texture, made ready for their rows.
+// Textured triangles, set up for their rows.
 ghost use Rattle.std.specs.Prelude.{◌≡◌};
 ghost use Rattle.edge_walk.specs.Held.{divisor_for};
 ghost use Rattle.span_lanes.specs.SpanDrawer.{IsShadingOf};
@@ -9,7 +9,7 @@ use crate::shading::{Shading, triangle_shading};
 use crate::{Brush, Texture};
 use edge_walk::{Divisor, Tri};
 
-// What is one for all rows of a triangle.
+// What all rows of a textured triangle share.
 #[derive(Clone, Copy)]
 pub(crate) struct TriangleSetup {
     pub(crate) tri: Tri,
@@ -19,7 +19,7 @@ pub(crate) struct TriangleSetup {
     pub(crate) coord_planes: CoordPlanes,
 }
 
-// A triangle made ready.
+// Returns the setup of a textured triangle.
 #[inline(always)]
 pub(crate) fn triangle_setup_of(tri: &Tri, texture: &Texture, brush: &Brush) -> TriangleSetup
     ensures { IsSetupFor tri.now texture.now brush.now result }
@@ -29,7 +29,7 @@ pub(crate) fn triangle_setup_of(tri: &Tri, texture: &Texture, brush: &Brush) -> 
     triangle_setup_with(tri, texture, brush, shading, &divisor)
 }
 
-// One whose colours are known.
+// As [`triangle_setup_of`], with known colours. `divisor` must be `tri.area_divisor()`.
 #[inline(always)]
 pub(crate) fn triangle_setup_with(
     tri: &Tri,

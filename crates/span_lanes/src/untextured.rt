@@ -1,4 +1,4 @@
-// Spans without a texture, part by part.
+// Spans without a texture, chunk by chunk.
 ghost use Rattle.std.specs.Prelude.{◌≡◌, None};
 ghost use Rattle.span_lanes.specs.Draws.{CanDraw, DrawsSpan, at_stage};
 ghost use Rattle.span_lanes.specs.Lanes.{AreDitherLanesAt};
@@ -19,7 +19,7 @@ use edge_walk::RowLine;
 use std::sync::ledger::Ledger;
 use vram_store::{Steps, Vram};
 
-// Cells that take their colours alone, and look at nothing but themselves.
+// Draws cells without a texture. They read no cell except their own.
 #[derive(Clone, Copy)]
 struct Untextured {
     row_colors: RowColors,
@@ -42,7 +42,7 @@ impl ChunkDrawer for Untextured {
     ghost can = { λ c s m serves. serves.can };
 }
 
-// A span without a texture, by its colours.
+// Returns the chunk drawer of a span without a texture, with these colours.
 #[inline(always)]
 fn untextured_by(span: &Span, row_colors: RowColors) -> Untextured
     requires span { IsSpan span.now }
@@ -55,7 +55,7 @@ fn untextured_by(span: &Span, row_colors: RowColors) -> Untextured
     }
 }
 
-// A span of one colour.
+// Draws a span of one colour without a texture.
 #[inline(never)]
 fn draw_flat<L: Ledger>(vram: &mut Vram, span: &Span, color: u32, steps: &mut Steps<L>)
     requires can { CanDraw span.now vram.old }
@@ -71,7 +71,7 @@ fn draw_flat<L: Ledger>(vram: &mut Vram, span: &Span, color: u32, steps: &mut St
     );
 }
 
-// A span of colours along the row.
+// Draws a span without a texture whose colours change along the row.
 #[inline(never)]
 fn draw_gouraud<L: Ledger>(
     vram: &mut Vram,
@@ -90,7 +90,7 @@ fn draw_gouraud<L: Ledger>(
     draw_by_brush(vram, span, &untextured_by(span, row_colors), steps);
 }
 
-// A span without a texture.
+// Draws a span without a texture. `shading` must be that of its paint.
 #[inline(always)]
 pub(crate) fn draw_untextured<L: Ledger>(
     vram: &mut Vram,

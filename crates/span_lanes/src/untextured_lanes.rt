@@ -1,4 +1,4 @@
-// ChunkDrawer without a texture, all their lanes at once.
+// Chunks without a texture, all their lanes at once.
 ghost use Rattle.std.specs.Prelude.{◌≡◌, ◌≤◌, ◌<◌, ◌+◌, ◌^◌, false, pos, length, slice_index};
 ghost use Rattle.std.specs.Prelude.{slice_index_or};
 ghost use Rattle.px_num.specs.Lanes.{EachLane};
@@ -38,7 +38,7 @@ fn blend_lanes_if(semi: bool, mode: u8, back: u16x16, front: u16x16) -> u16x16
     }
 }
 
-// The tones of sixteen cells from cell `first` on, by their channels.
+// Returns the dithered 15-bit colours of the sixteen cells from cell `first` on.
 #[inline(always)]
 fn dithered_tones(row_colors: &RowColors, dither_lanes: DitherLanes, first: u16) -> u16x16
     requires dither_lanes { AreDitherLanes dither_lanes.lanes }
@@ -50,7 +50,7 @@ fn dithered_tones(row_colors: &RowColors, dither_lanes: DitherLanes, first: u16)
     tones_of(color_lanes_of(row_colors, first), dither_lanes)
 }
 
-// The tones of sixteen cells from cell `first` on, by their channels, without dither.
+// Returns the 15-bit colours of the sixteen cells from cell `first` on, without dither, from three channels.
 #[inline(always)]
 fn gouraud_tones(row_colors: &RowColors, first: u16) -> u16x16
     ensures long { length result ≡ 16 }
@@ -61,7 +61,7 @@ fn gouraud_tones(row_colors: &RowColors, first: u16) -> u16x16
     undithered_tone_lanes(colors.red, colors.green, colors.blue)
 }
 
-// Those of one colour, or of several.
+// As [`gouraud_tones`]. One colour is computed only once.
 #[inline(always)]
 fn undithered_tones(row_colors: &RowColors, first: u16) -> u16x16
     ensures long { length result ≡ 16 }
@@ -74,7 +74,7 @@ fn undithered_tones(row_colors: &RowColors, first: u16) -> u16x16
     }
 }
 
-// The tones of sixteen cells from cell `first` on.
+// Returns the 15-bit colours of the sixteen cells from cell `first` on. Without `dither`, all dither offsets must be 0.
 #[inline(always)]
 fn row_tones(row_colors: &RowColors, dither: bool, dither_lanes: DitherLanes, first: u16) -> u16x16
     requires dither_lanes { AreDitherLanes dither_lanes.lanes }
@@ -91,7 +91,8 @@ fn row_tones(row_colors: &RowColors, dither: bool, dither_lanes: DitherLanes, fi
     }
 }
 
-// The pixels of k cells of a span without a texture, all of them read in video memory as it is.
+// Returns the values that a chunk's cells become in its first `chunk.k` lanes. All are computed from video memory
+// before the chunk is stored. Costs at most one step.
 #[inline(always)]
 pub(crate) fn untextured_lanes<L: Ledger>(
     vram: &Vram,
