@@ -17,8 +17,7 @@ use Rattle.span_lanes.specs.declared.texel_rows.TexelRows.{TexelRows}
 use Rattle.texel_lanes.specs.declared.texture.Texture.{Texture}
 use Rattle.prim_draw.specs.Pattern.{uniform}
 use Rattle.prim_draw.specs.Rectangles.{paint_from, rectangle_paint}
-use Rattle.prim_draw.specs.Rows.{CanDraw, DrawsRun, run_span}
-use Rattle.prim_draw.proofs.RowLemmas.{run_drawn}
+use Rattle.prim_draw.specs.Rows.{CanDraw, run_span}
 use Rattle.prim_draw.specs.Rectangles.{IsPartOf}
 use Rattle.prim_draw.specs.declared.texel_rows_drawer.FirstRow.{FirstRow}
 use Rattle.prim_draw.specs.ClippedRectangle.{AreTexelsOf, CanDrawRectangle, IsFirstRow, IsWholeRow, texels_of, rectangle_pattern}
@@ -132,10 +131,9 @@ module _ (rectangle : ClippedRectangle) (y : ℕ) (run : Run) (whole : IsWholeRo
             (record { left = omega arith; right = omega arith; top = whole.top; bottom = whole.bottom });
       }
 
-  pub texels_drawn : (rows : TexelRows) (height v : ℕ) (before after : Stage) → AreTexelsOf rectangle rows
+  pub texels_drawn : (rows : TexelRows) (v : ℕ) (before after : Stage) → AreTexelsOf rectangle rows
       → v ≡ row_u rectangle.rectangle_setup.now.v rectangle.rectangle_setup.now.flip_y (unsigned_abs (pos y -ℤ rectangle.extent.now.top))
-      → CanDraw height (rectangle_pattern rectangle) y run
       → DrawsCells (texel_span rows y v) before after
-      → DrawsRun (rectangle_pattern rectangle) y (Some run) before after
-  texels_drawn rows height v before after of row can drawn =
-      run_drawn height (rectangle_pattern rectangle) y run (texel_span rows y v) before after can (row_is rows v of row) drawn
+      → DrawsCells (run_span (rectangle_pattern rectangle) y run) before after
+  texels_drawn rows v before after of row drawn =
+      subst (λ (s : Span). DrawsCells s before after) (row_is rows v of row) drawn

@@ -169,17 +169,13 @@ span_pixels height p y run m can =
     let back : (run.x + i) - run.x ≡ i = omega arith in
     rw back (can.alike i lt now))
 
-pub run_drawn : (height : ℕ) (p : Pattern) (y : ℕ) (run : Run) (s : Span) (before after : Stage) → CanDraw height p y
-    run
-    → s ≡ run_span p y run → DrawsCells s before after → DrawsRun p y (Some run) before after
-run_drawn height p y run s before after can is drawn =
-    let so : DrawsCells (run_span p y run) before after =
-    subst (λ (k : Span). DrawsCells k before after) is drawn in
-    record {
-      cells = so.cells ∙ span_pixels height p y run before.m can;
-      long = so.long;
-      cost = rw (span_of_row p run.x y run.n can.span.some) so.cost;
-    }
+pub run_drawn : (height : ℕ) (p : Pattern) (y : ℕ) (run : Run) (before after : Stage) → CanDraw height p y run
+    → DrawsCells (run_span p y run) before after → DrawsRun p y (Some run) before after
+run_drawn height p y run before after can drawn = record {
+  cells = drawn.cells ∙ span_pixels height p y run before.m can;
+  long = drawn.long;
+  cost = rw (span_of_row p run.x y run.n can.span.some) drawn.cost;
+}
 
 -- ---- rows that are drawn one after another
 

@@ -38,16 +38,8 @@ impl<P: BlockRowDrawer> RowDrawer for TriangleRowDrawer<P> {
     ghost ready = { λ rows. IsClutFresh (P.held_in_clip rows.drawer).held };
 
     #[inline(always)]
-    fn draw_run<L: Ledger>(
-        &mut self,
-        vram: &mut Vram,
-        found: Option<Run>,
-        y: u16,
-        steps: &mut Steps<L>,
-    ) {
-        if let Some(run) = found {
-            self.drawer.draw(vram, run, y, steps);
-        }
+    fn draw_run<L: Ledger>(&mut self, vram: &mut Vram, run: Run, y: u16, steps: &mut Steps<L>) {
+        self.drawer.draw(vram, run, y, steps);
     }
 }
 

@@ -1,8 +1,8 @@
 // The loop over the rows of what is drawn.
-ghost use Rattle.std.specs.Prelude.{ℕ};
+ghost use Rattle.std.specs.Prelude.{ℕ, ◌≡◌, IfSome};
 ghost use Rattle.vram_store.specs.Vram.{height_of};
 ghost use Rattle.span_lanes.specs.ClipRect.{IsClipRect};
-ghost use Rattle.prim_draw.specs.Rows.{CanDraw, DrawsRows};
+ghost use Rattle.prim_draw.specs.Rows.{CanDraw, DrawsRows, DrawsRun};
 ghost use Rattle.span_lanes.specs.declared.span.Run.{Run};
 
 use crate::rows::Rows;
@@ -12,9 +12,10 @@ use vram_store::{Steps, Vram};
 
 /// What draws cells, row by row.
 pub(crate) trait RowDrawer: Drop {
-    ghost use Rattle.std.specs.Prelude.{◌≡◌, IfSome, List};
+    ghost use Rattle.std.specs.Prelude.{◌≡◌, List};
+    ghost use Rattle.span_lanes.specs.SpanDrawer.{DrawsCells};
     ghost use Rattle.prim_draw.specs.Pattern.{Pattern};
-    ghost use Rattle.prim_draw.specs.Rows.{DrawsRun};
+    ghost use Rattle.prim_draw.specs.Rows.{run_span};
 
     // What it draws with.
     ghost pattern: { Self → Pattern };
@@ -25,22 +26,39 @@ pub(crate) trait RowDrawer: Drop {
     // Holds where it is ready for video memory.
     ghost ready: { Self → List ℕ → Type 0 };
 
-    /// Draws a run of cells, or none.
-    fn draw_run<L: Ledger>(
-        &mut self,
-        vram: &mut Vram,
-        found: Option<Run>,
-        y: u16,
-        steps: &mut Steps<L>,
-    )
-        requires run { IfSome found (CanDraw (height_of vram.old) (pattern self.old) y) }
-        requires reaches { IfSome found (reaches self.old y) }
+    /// Draws a run of cells of row y.
+    fn draw_run<L: Ledger>(&mut self, vram: &mut Vram, run: Run, y: u16, steps: &mut Steps<L>)
+        requires run { CanDraw (height_of vram.old) (pattern self.old) y run }
+        requires reaches { reaches self.old y run }
         requires ready { ready self.old vram.old }
-        ensures drawn { DrawsRun (pattern self.old) y found
+        ensures drawn { DrawsCells (run_span (pattern self.old) y run)
             (record { m = vram.old; steps = steps.old }) (record { m = vram.new; steps = steps.new }) }
         ensures pattern { pattern self.new ≡ pattern self.old }
         ensures reaches { (y : ℕ) (run : Run) → reaches self.old y run → reaches self.new y run }
         ensures ready { ready self.new vram.new };
+}
+
+// Draws a run of cells of row y, if there is one.
+#[inline(always)]
+fn draw_found<P: RowDrawer, L: Ledger>(
+    vram: &mut Vram,
+    drawer: &mut P,
+    found: Option<Run>,
+    y: u16,
+    steps: &mut Steps<L>,
+)
+    requires run { IfSome found (CanDraw (height_of vram.old) (P.pattern drawer.old) y) }
+    requires reaches { IfSome found (P.reaches drawer.old y) }
+    requires ready { P.ready drawer.old vram.old }
+    ensures drawn { DrawsRun (P.pattern drawer.old) y found
+        (record { m = vram.old; steps = steps.old }) (record { m = vram.new; steps = steps.new }) }
+    ensures pattern { P.pattern drawer.new ≡ P.pattern drawer.old }
+    ensures reaches { (y : ℕ) (run : Run) → P.reaches drawer.old y run → P.reaches drawer.new y run }
+    ensures ready { P.ready drawer.new vram.new }
+{
+    if let Some(run) = found {
+        drawer.draw_run(vram, run, y, steps);
+    }
 }
 
 /// Draws the cells of each row, from the first row to the last.
@@ -65,6 +83,6 @@ pub(crate) fn draw_rows<R: Rows, P: RowDrawer, L: Ledger>(
     for j in 0..clip_rect.h {
         let y = clip_rect.y + j;
         let run = rows.run_at(y);
-        drawer.draw_run(vram, run, y, steps);
+        draw_found(vram, drawer, run, y, steps);
     }
 }

@@ -95,22 +95,14 @@ impl RowDrawer for Solid {
     ghost ready = { λ solid m. IsEven solid };
 
     #[inline(always)]
-    fn draw_run<L: Ledger>(
-        &mut self,
-        vram: &mut Vram,
-        found: Option<Run>,
-        y: u16,
-        steps: &mut Steps<L>,
-    ) {
-        if let Some(run) = found {
-            let span = Span {
-                x: run.x,
-                y,
-                n: run.n,
-                paint: Paint::Flat { color: self.color },
-                brush: self.brush,
-            };
-            draw_solid(vram, &span, self.halfword, steps);
-        }
+    fn draw_run<L: Ledger>(&mut self, vram: &mut Vram, run: Run, y: u16, steps: &mut Steps<L>) {
+        let span = Span {
+            x: run.x,
+            y,
+            n: run.n,
+            paint: Paint::Flat { color: self.color },
+            brush: self.brush,
+        };
+        draw_solid(vram, &span, self.halfword, steps);
     }
 }

@@ -46,16 +46,8 @@ impl<P: TexelRowDrawer> RowDrawer for RectangleRowDrawer<'_, P> {
     ghost ready = { λ rows. IsReadyFor rows.rectangle rows.first (P.rows_held rows.drawer) };
 
     #[inline(always)]
-    fn draw_run<L: Ledger>(
-        &mut self,
-        vram: &mut Vram,
-        found: Option<Run>,
-        y: u16,
-        steps: &mut Steps<L>,
-    ) {
-        if let Some(_) = found {
-            let v = self.first.texel_row(y);
-            self.drawer.draw_row(vram, y, v, steps);
-        }
+    fn draw_run<L: Ledger>(&mut self, vram: &mut Vram, _run: Run, y: u16, steps: &mut Steps<L>) {
+        let v = self.first.texel_row(y);
+        self.drawer.draw_row(vram, y, v, steps);
     }
 }

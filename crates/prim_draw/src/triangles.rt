@@ -36,16 +36,8 @@ impl RowDrawer for SpanDrawer {
     ghost ready = { IsClutFresh };
 
     #[inline(always)]
-    fn draw_run<L: Ledger>(
-        &mut self,
-        vram: &mut Vram,
-        found: Option<Run>,
-        y: u16,
-        steps: &mut Steps<L>,
-    ) {
-        if let Some(run) = found {
-            self.draw(vram, run, y, steps);
-        }
+    fn draw_run<L: Ledger>(&mut self, vram: &mut Vram, run: Run, y: u16, steps: &mut Steps<L>) {
+        self.draw(vram, run, y, steps);
     }
 }
 

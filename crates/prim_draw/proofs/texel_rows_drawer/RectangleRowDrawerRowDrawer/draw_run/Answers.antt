@@ -2,23 +2,22 @@ use Rattle.prim_draw.proofs.RectLemmas.{can_draw_texels, texel_row_is, texels_dr
 use Rattle.prim_draw.proofs.texel_rows_drawer.RectangleRowDrawerRowDrawer.draw_run.Goals as goal
 
 pub texel_row-v-requires-clause-below : goal.texel_row-v-requires-clause-below
-texel_row-v-requires-clause-below g c = rw c.requires.ready.first_is.y (rw c.in-Some.is at c.requires.reaches).top
+texel_row-v-requires-clause-below g c = rw c.requires.ready.first_is.y c.requires.reaches.top
 
 pub draw_row-requires-clause-can : goal.draw_row-requires-clause-can
 draw_row-requires-clause-can g c =
-    let whole = rw c.in-Some.is at c.requires.reaches in
+    let whole = c.requires.reaches in
     let ready = c.requires.ready in
-    can_draw_texels c.args.self.now.rectangle c.args.y c.in-Some.field-0 whole
+    can_draw_texels c.args.self.now.rectangle c.args.y c.args._run whole
     (g.P.TexelRowDrawer.rows_held c.args.self.now.drawer).rows c.texel_row-v.result c.args.vram.now ready.rows
     (texel_row_is c.args.self.now.rectangle c.args.self.now.first c.args.y c.texel_row-v.result ready.part ready.first_is
-    whole.top whole.bottom c.texel_row-v.ensures) (rw c.in-Some.is at c.requires.run)
+    whole.top whole.bottom c.texel_row-v.ensures) c.requires.run
 
-pub returns-in-Some-clause-drawn : goal.returns-in-Some-clause-drawn
-returns-in-Some-clause-drawn g c =
-    let whole = rw c.in-Some.is at c.requires.reaches in
+pub returns-clause-drawn : goal.returns-clause-drawn
+returns-clause-drawn g c =
+    let whole = c.requires.reaches in
     let ready = c.requires.ready in
-    rw c.in-Some.is
-    (texels_drawn c.args.self.now.rectangle c.args.y c.in-Some.field-0 whole
-    (g.P.TexelRowDrawer.rows_held c.args.self.now.drawer).rows _ c.texel_row-v.result _ _ ready.rows
+    texels_drawn c.args.self.now.rectangle c.args.y c.args._run whole
+    (g.P.TexelRowDrawer.rows_held c.args.self.now.drawer).rows c.texel_row-v.result _ _ ready.rows
     (texel_row_is c.args.self.now.rectangle c.args.self.now.first c.args.y c.texel_row-v.result ready.part ready.first_is
-    whole.top whole.bottom c.texel_row-v.ensures) (rw c.in-Some.is at c.requires.run) c.draw_row.ensures.drawn)
+    whole.top whole.bottom c.texel_row-v.ensures) c.draw_row.ensures.drawn
