@@ -9,10 +9,8 @@ use crate::opaque::is_opaque;
 use crate::row_shading::has_undithered_clut16;
 use crate::shading::one_color;
 use crate::texel_run::does_not_wrap;
-use crate::{Brush, ClipRect, Run, Texture};
+use crate::{Brush, ClipRect, Texture};
 use edge_walk::Tri;
-use std::sync::ledger::Ledger;
-use vram_store::{Steps, Vram};
 
 /// How the rows of a triangle are drawn that read nothing that they write: each way has its pen.
 #[derive(Clone, Copy)]
@@ -25,31 +23,6 @@ pub enum RowMethod {
     FlatTexelsByCoords { color: u32 },
     /// By the coordinates of each texel, under several colours ([`GouraudTexelsDrawer`](crate::GouraudTexelsDrawer)).
     GouraudTexels,
-}
-
-/// A pen for the spans of a triangle with a texture that lie in a block of cells, none of which is one of the texture
-/// page or of the palette: what is one for all of them is asked once.
-pub trait BlockRowDrawer: Drop {
-    ghost use Rattle.std.specs.Prelude.{◌≡◌};
-    ghost use Rattle.vram_store.specs.Vram.{height_of};
-    ghost use Rattle.span_lanes.specs.ClipRect.{BlockDrawerView, IsInClip};
-    ghost use Rattle.span_lanes.specs.SpanDrawer.{DrawsCells, IsClutFresh, state_span};
-    ghost use Rattle.span_lanes.specs.Shade.{IsSpan, LiesIn};
-
-    // What it draws with, and in which block.
-    ghost held_in_clip: { Self → BlockDrawerView };
-
-    /// Draws cells of row y, which lie in the block, as [`draw_span`](crate::draw_span) does.
-    fn draw<L: Ledger>(&mut self, vram: &mut Vram, run: Run, y: u16, steps: &mut Steps<L>)
-        requires span { IsSpan (state_span (held_in_clip self.old).held.state run.x y run.n) }
-        requires height { LiesIn (height_of vram.old) (state_span (held_in_clip self.old).held.state run.x y run.n) }
-        requires clip_rect { IsInClip (held_in_clip self.old).clip_rect run.x y run.n }
-        requires fresh { IsClutFresh (held_in_clip self.old).held vram.old }
-        ensures state { (held_in_clip self.new).held.state ≡ (held_in_clip self.old).held.state }
-        ensures clip_rect { (held_in_clip self.new).clip_rect ≡ (held_in_clip self.old).clip_rect }
-        ensures fresh { IsClutFresh (held_in_clip self.new).held vram.new }
-        ensures drawn { DrawsCells (state_span (held_in_clip self.old).held.state run.x y run.n)
-            (record { m = vram.old; steps = steps.old }) (record { m = vram.new; steps = steps.new }) };
 }
 
 // Whether the texels of each row are known to stand side by side.

@@ -5,4 +5,4 @@ pub returns-in-Some-clause-drawn : goal.returns-in-Some-clause-drawn
 returns-in-Some-clause-drawn g c =
     rw c.in-Some.is
     (run_drawn _ (g.P.RowDrawer.pattern c.args.drawer.now) c.args.y c.in-Some.run' _ _ (rw c.in-Some.is at c.requires.run)
-    c.draw_run.ensures.drawn)
+    c.draw.ensures.drawn)

@@ -1,7 +1,7 @@
 use Rattle.std.proofs.Common.{ℕ, ◌≡◌, ◌+◌, ◌∙◌, ap, subst, arith, List}
 use Rattle.px_num.specs.declared.shape.Cell.{Cell}
 use Rattle.span_lanes.specs.declared.clip_rect.ClipRect.{ClipRect}
-use Rattle.prim_draw.specs.Pattern.{Pattern}
+use Rattle.span_lanes.specs.Pattern.{Pattern}
 use Rattle.prim_draw.specs.Rows.{DrawsRun}
 use Rattle.prim_draw.specs.Triangles.{run_cells}
 use Rattle.prim_draw.proofs.RowLemmas.{rows_next}
@@ -33,5 +33,5 @@ loop-j-preserved g c =
       gives = λ y run is. h.gives y run (c.run_at-run.ensures.same y run is);
       pattern = c.draw_found.ensures.pattern ∙ h.pattern;
       reaches = λ y run is. c.draw_found.ensures.reaches y run (h.reaches y run is);
-      ready = c.draw_found.ensures.ready;
+      fresh = c.draw_found.ensures.fresh;
     }
