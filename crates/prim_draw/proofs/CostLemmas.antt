@@ -18,7 +18,7 @@ use Rattle.prim_draw.specs.Costs.{all_cost, rectangle_cost, ends_cost, draw_cost
 use Rattle.prim_draw.specs.Laws.{CostLaw}
 use Rattle.prim_draw.specs.Lines.{placed_ends, segment_box}
 use Rattle.prim_draw.specs.Parts.{polygon, polygon_style, rectangle_style}
-use Rattle.prim_draw.specs.Pattern.{Pattern, uniform, span_from}
+use Rattle.span_lanes.specs.Pattern.{Pattern, uniform, span_from}
 use Rattle.prim_draw.specs.Rectangles.{extent_at, pattern_of, rectangle_box, rectangle_setup_in}
 use Rattle.prim_draw.specs.Triangles.{draws, row_inside, lower_half, triangle_box, triangle_state, upper_half}
 use Rattle.span_lanes.specs.declared.span.DrawState.{DrawState}

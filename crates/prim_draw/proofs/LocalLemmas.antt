@@ -18,7 +18,7 @@ use Rattle.prim_draw.specs.Lines.{drawn_ends, drawn_point, drawn_points, is_in, 
 use Rattle.prim_draw.specs.Parts.{polygon, polygon_style, rectangle_style}
 use Rattle.prim_draw.specs.Rectangles.{extent_at, drawn_all, drawn_rectangle, rectangle_box, rectangle_setup_in, rectangle_paint}
 use Rattle.prim_draw.specs.Rectangles.{pattern_of}
-use Rattle.prim_draw.specs.Pattern.{uniform, pixel_at}
+use Rattle.span_lanes.specs.Pattern.{uniform, pixel_at}
 use Rattle.gp1_status.specs.Drawing.{drawing_area}
 use Rattle.prim_draw.specs.Settings.{brush_in}
 use Rattle.prim_draw.specs.Triangles.{draws, drawn_inside, drawn_polygon, drawn_triangle}

@@ -3,11 +3,11 @@ use Rattle.std.proofs.Common.{◌≡◌, ◌≤◌, ◌<◌, ℕ, ◌+◌, ◌-�
 use Rattle.std.proofs.Common.{true, false}
 use Rattle.std.proofs.Common.{refl, sym, ap, ◌∙◌, subst, arith}
 use Rattle.std.proofs.lemmas.Int.{ints}
-use Rattle.vram_store.specs.Vram.{height_of}
 use Rattle.span_lanes.specs.Cells.{Stage}
+use Rattle.span_lanes.specs.Draws.{CanDraw}
 use Rattle.span_lanes.specs.ClipRect.{IsInClip}
 use Rattle.span_lanes.specs.SpanDrawer.{DrawsCells}
-use Rattle.span_lanes.specs.Shade.{HasInside, IsSpan, LiesIn, paint_pixel, row_u, texture_of}
+use Rattle.span_lanes.specs.Shade.{HasInside, paint_pixel, row_u, texture_of}
 use Rattle.span_lanes.specs.TexelRows.{CanDrawTexels, texel_span}
 use Rattle.span_lanes.specs.declared.clip_rect.ClipRect.{ClipRect}
 use Rattle.span_lanes.specs.declared.span.Brush.{Brush}
@@ -15,10 +15,10 @@ use Rattle.span_lanes.specs.declared.span.Paint.TheVariants.{Flat}
 use Rattle.span_lanes.specs.declared.span.Span.{Span}
 use Rattle.span_lanes.specs.declared.texel_rows.TexelRows.{TexelRows}
 use Rattle.texel_lanes.specs.declared.texture.Texture.{Texture}
-use Rattle.prim_draw.specs.Pattern.{uniform}
+use Rattle.span_lanes.specs.Pattern.{uniform}
 use Rattle.prim_draw.specs.Rectangles.{paint_from, rectangle_paint}
-use Rattle.prim_draw.specs.Rows.{CanDraw, DrawsRun, run_span}
-use Rattle.prim_draw.proofs.RowLemmas.{run_drawn}
+use Rattle.prim_draw.specs.Rows.{CanDrawRun}
+use Rattle.span_lanes.specs.Pattern.{run_span}
 use Rattle.prim_draw.specs.Rectangles.{IsPartOf}
 use Rattle.prim_draw.specs.declared.texel_rows_drawer.FirstRow.{FirstRow}
 use Rattle.prim_draw.specs.ClippedRectangle.{AreTexelsOf, CanDrawRectangle, IsFirstRow, IsWholeRow, texels_of, rectangle_pattern}
@@ -81,7 +81,7 @@ unfolding rectangle_paint
 flat_pattern rectangle none = rw none refl
 
 module _ (rectangle : ClippedRectangle) (y : ℕ) (run : Run) (whole : IsWholeRow rectangle.clip_rect.now y run) where
-  pub tile_can_draw : (height : ℕ) → CanDrawRectangle height rectangle → CanDraw height (rectangle_pattern rectangle) y run
+  pub tile_can_draw : (height : ℕ) → CanDrawRectangle height rectangle → CanDrawRun height (rectangle_pattern rectangle) y run
   unfolding rectangle_paint
   tile_can_draw height can =
       let rectangle_setup = rectangle.rectangle_setup.now in
@@ -120,22 +120,18 @@ module _ (rectangle : ClippedRectangle) (y : ℕ) (run : Run) (whole : IsWholeRo
 
   pub can_draw_texels : (rows : TexelRows) (v : ℕ) (m : List ℕ) → AreTexelsOf rectangle rows
       → v ≡ row_u rectangle.rectangle_setup.now.v rectangle.rectangle_setup.now.flip_y (unsigned_abs (pos y -ℤ rectangle.extent.now.top))
-      → CanDraw (height_of m) (rectangle_pattern rectangle) y run → CanDrawTexels rows y v m
+      → CanDraw (run_span (rectangle_pattern rectangle) y run) m → CanDrawTexels rows y v m
   can_draw_texels rows v m of row can =
       let is = row_is rows v of row in
       record {
-        can = record {
-          span = subst (λ (s : Span). IsSpan s) (sym is) can.span;
-          lies = subst (λ (s : Span). LiesIn (height_of m) s) (sym is) can.lies;
-        };
+        can = subst (λ (s : Span). CanDraw s m) (sym is) can;
         in_block = subst (λ (b : ClipRect). IsInClip b b.x y b.w) (sym (ap (λ (r : TexelRows). r.clip_rect) of.are))
             (record { left = omega arith; right = omega arith; top = whole.top; bottom = whole.bottom });
       }
 
-  pub texels_drawn : (rows : TexelRows) (height v : ℕ) (before after : Stage) → AreTexelsOf rectangle rows
+  pub texels_drawn : (rows : TexelRows) (v : ℕ) (before after : Stage) → AreTexelsOf rectangle rows
       → v ≡ row_u rectangle.rectangle_setup.now.v rectangle.rectangle_setup.now.flip_y (unsigned_abs (pos y -ℤ rectangle.extent.now.top))
-      → CanDraw height (rectangle_pattern rectangle) y run
       → DrawsCells (texel_span rows y v) before after
-      → DrawsRun (rectangle_pattern rectangle) y (Some run) before after
-  texels_drawn rows height v before after of row can drawn =
-      run_drawn height (rectangle_pattern rectangle) y run (texel_span rows y v) before after can (row_is rows v of row) drawn
+      → DrawsCells (run_span (rectangle_pattern rectangle) y run) before after
+  texels_drawn rows v before after of row drawn =
+      subst (λ (s : Span). DrawsCells s before after) (row_is rows v of row) drawn

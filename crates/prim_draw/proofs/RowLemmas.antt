@@ -19,8 +19,9 @@ use Rattle.span_lanes.specs.declared.span.Span.{Span}
 use Rattle.span_lanes.proofs.CellsLemmas.{cells_append, row_more, row_none, row_same}
 use Rattle.prim_draw.specs.Boxes.{cells_down, cells_in_rows, row_box}
 use Rattle.prim_draw.specs.Costs.{side_by_side}
-use Rattle.prim_draw.specs.Pattern.{Pattern, painted_cells, pixel_at, span_from}
-use Rattle.prim_draw.specs.Rows.{CanDraw, DrawsRows, DrawsRun, Figure, run_span}
+use Rattle.span_lanes.specs.Pattern.{Pattern, painted_cells, pixel_at, span_from}
+use Rattle.prim_draw.specs.Rows.{CanDrawRun, DrawsRows, DrawsRun, Figure}
+use Rattle.span_lanes.specs.Pattern.{run_span}
 use Rattle.prim_draw.specs.Triangles.{draws, row_inside, run_cells}
 use Rattle.span_lanes.specs.declared.span.Run.{Run}
 use Rattle.span_lanes.specs.declared.clip_rect.ClipRect.{ClipRect}
@@ -160,7 +161,7 @@ span_of_row p x y (suc n) some =
     ∙ ap (λ (k : ℕ). span_cost (span_from p (record { x = x; y = y }) k)) count
 
 -- drawing the span of a run draws its cells
-span_pixels : (height : ℕ) (p : Pattern) (y : ℕ) (run : Run) (m : List ℕ) → CanDraw height p y run
+span_pixels : (height : ℕ) (p : Pattern) (y : ℕ) (run : Run) (m : List ℕ) → CanDrawRun height p y run
     → drawn_cells (shade_at (run_span p y run)) p.brush.mask (row_cells run.x y run.n) m
     ≡ painted_cells p (row_cells run.x y run.n) m
 unfolding shade
@@ -170,17 +171,13 @@ span_pixels height p y run m can =
     let back : (run.x + i) - run.x ≡ i = omega arith in
     rw back (can.alike i lt now))
 
-pub run_drawn : (height : ℕ) (p : Pattern) (y : ℕ) (run : Run) (s : Span) (before after : Stage) → CanDraw height p y
-    run
-    → s ≡ run_span p y run → DrawsCells s before after → DrawsRun p y (Some run) before after
-run_drawn height p y run s before after can is drawn =
-    let so : DrawsCells (run_span p y run) before after =
-    subst (λ (k : Span). DrawsCells k before after) is drawn in
-    record {
-      cells = so.cells ∙ span_pixels height p y run before.m can;
-      long = so.long;
-      cost = rw (span_of_row p run.x y run.n can.span.some) so.cost;
-    }
+pub run_drawn : (height : ℕ) (p : Pattern) (y : ℕ) (run : Run) (before after : Stage) → CanDrawRun height p y run
+    → DrawsCells (run_span p y run) before after → DrawsRun p y (Some run) before after
+run_drawn height p y run before after can drawn = record {
+  cells = drawn.cells ∙ span_pixels height p y run before.m can;
+  long = drawn.long;
+  cost = rw (span_of_row p run.x y run.n can.span.some) drawn.cost;
+}
 
 -- ---- rows that are drawn one after another
 

@@ -8,8 +8,9 @@ use Rattle.span_lanes.specs.ClipRect.{IsClipRect}
 use Rattle.span_lanes.specs.declared.clip_rect.ClipRect.{ClipRect}
 use Rattle.prim_draw.specs.ClippedTriangle.{CanDrawRows}
 use Rattle.prim_draw.specs.Boxes.{IsOnScreen, clip_rect_of}
-use Rattle.prim_draw.specs.Pattern.{Pattern, uniform}
-use Rattle.prim_draw.specs.Rows.{CanDraw, DrawsRows, LiesInClip}
+use Rattle.span_lanes.specs.Pattern.{Pattern, uniform}
+use Rattle.prim_draw.specs.Rows.{CanDrawRun, DrawsRows}
+use Rattle.span_lanes.specs.Pattern.{LiesInClip}
 use Rattle.prim_draw.specs.Triangles.{IsRun, row_inside}
 use Rattle.prim_draw.specs.Walks.{AreRowsIn, StandAt}
 use Rattle.span_lanes.specs.declared.span.DrawState.{DrawState}
@@ -19,7 +20,7 @@ use Rattle.prim_draw.proofs.WalkLemmas.{box_is}
 
 -- a run of a triangle can be drawn with its draw state
 can_draw : (height : ℕ) (state : DrawState) (t : Corners) (clip : Box2) (y : ℕ) (run : Run) → CanDrawRows height state t clip
-    → IsRun t y run → LiesInClip (clip_rect_of clip) y run → CanDraw height (uniform state) y run
+    → IsRun t y run → LiesInClip (clip_rect_of clip) y run → CanDrawRun height (uniform state) y run
 can_draw height state t clip y run can is lies =
     let box = box_is clip can.small in
     record {
@@ -53,7 +54,7 @@ module _ (t : Corners) (clip : Box2) (rows : TriangleRows) (are : AreRowsIn t cl
   tri_stands = subst (λ (b : ClipRect). StandAt rows b.y) (sym are.clip_rect) are.stand
 
   pub tri_can_draw : (height : ℕ) (state : DrawState) (y : ℕ) (run : Run) → CanDrawRows height state t clip
-      → IsRun rows.tri.now y run × LiesInClip rows.clip_rect y run → CanDraw height (uniform state) y run
+      → IsRun rows.tri.now y run × LiesInClip rows.clip_rect y run → CanDrawRun height (uniform state) y run
   tri_can_draw height state y run can gives =
       can_draw height state t clip y run can (subst (λ (k : Corners). IsRun k y run) are.tri gives.0)
       (subst (λ (b : ClipRect). LiesInClip b y run) are.clip_rect gives.1)

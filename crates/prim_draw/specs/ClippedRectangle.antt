@@ -8,7 +8,7 @@ use Rattle.span_lanes.specs.declared.clip_rect.ClipRect.{ClipRect}
 use Rattle.span_lanes.specs.declared.texel_rows.TexelRows.{TexelRows}
 use Rattle.texel_lanes.specs.declared.texture.Texture.{Texture}
 use Rattle.prim_draw.specs.Boxes.{clip_row}
-use Rattle.prim_draw.specs.Pattern.{Pattern}
+use Rattle.span_lanes.specs.Pattern.{Pattern}
 use Rattle.prim_draw.specs.Rectangles.{IsExtent, IsPartOf, IsRectangleSetup, pattern_of}
 use Rattle.prim_draw.specs.Rows.{DrawsRows}
 use Rattle.prim_draw.specs.declared.texel_rows_drawer.FirstRow.{FirstRow}

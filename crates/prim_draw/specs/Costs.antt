@@ -11,7 +11,7 @@ use Rattle.span_lanes.specs.Cost.{span_cost}
 use Rattle.prim_draw.specs.Boxes.{clip_rect_of, clip_row, count_in}
 use Rattle.prim_draw.specs.Lines.{is_in, placed_ends, segment_box}
 use Rattle.prim_draw.specs.Parts.{polygon, polygon_style, rectangle_style}
-use Rattle.prim_draw.specs.Pattern.{Pattern, uniform, span_from}
+use Rattle.span_lanes.specs.Pattern.{Pattern, uniform, span_from}
 use Rattle.prim_draw.specs.Rectangles.{extent_at, pattern_of, rectangle_box, rectangle_setup_in}
 use Rattle.gp1_status.specs.Drawing.{drawing_area}
 use Rattle.prim_draw.specs.Triangles.{lower_half, row_inside, triangle_box, triangle_state, upper_half}

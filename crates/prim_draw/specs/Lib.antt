@@ -8,7 +8,6 @@ pub mod PointColor
 pub mod Laws
 pub mod Lines
 pub mod Parts
-pub mod Pattern
 pub mod Rectangles
 pub mod Rows
 pub mod Settings

@@ -12,7 +12,7 @@ use Rattle.span_lanes.specs.declared.span.Brush.{Brush}
 use Rattle.span_lanes.specs.declared.span.Paint.TheVariants.{Flat}
 use Rattle.prim_draw.specs.Boxes.{clipped}
 use Rattle.gp1_status.specs.Drawing.{drawing_area}
-use Rattle.prim_draw.specs.Pattern.{uniform, painted_cells}
+use Rattle.span_lanes.specs.Pattern.{uniform, painted_cells}
 use Rattle.prim_draw.specs.Settings.{brush_in, placed}
 
 -- the smallest box that contains both ends

@@ -2,27 +2,16 @@
 use Rattle.std.specs.Prelude.{ℕ, ◌+◌, ◌<◌, ◌≤◌, ◌≡◌, List, Option, length}
 use Rattle.px_num.specs.declared.shape.Cell.{Cell}
 use Rattle.span_lanes.specs.Cells.{Stage}
-use Rattle.span_lanes.specs.ClipRect.{IsInClip}
 use Rattle.span_lanes.specs.Shade.{IsSpan, LiesIn, paint_pixel}
-use Rattle.span_lanes.specs.declared.clip_rect.ClipRect.{ClipRect}
-use Rattle.span_lanes.specs.declared.span.Span.{Span}
 use Rattle.prim_draw.specs.Boxes.{cells_down}
 use Rattle.prim_draw.specs.Costs.{cost_down, side_by_side}
-use Rattle.prim_draw.specs.Pattern.{Pattern, painted_cells, span_from}
+use Rattle.span_lanes.specs.Pattern.{Pattern, painted_cells, run_span}
 use Rattle.prim_draw.specs.Triangles.{run_cells}
 use Rattle.span_lanes.specs.declared.span.Run.{Run}
 
--- a run of row y that is in a clip rectangle
-abbrev pub LiesInClip : ClipRect → ℕ → Run → Type 0
-LiesInClip b y run = IsInClip b run.x y run.n
-
--- the span of a run of row y
-abbrev pub run_span : Pattern → ℕ → Run → Span
-run_span p y run = span_from p (record { x = run.x; y = y }) run.n
-
 -- a run can be drawn in video memory of this height, and the paint of its first cell determines the pixel of each
 -- cell
-pub record CanDraw (height : ℕ) (p : Pattern) (y : ℕ) (run : Run) : Type 0 where
+pub record CanDrawRun (height : ℕ) (p : Pattern) (y : ℕ) (run : Run) : Type 0 where
   pub span : IsSpan (run_span p y run)
   pub lies : LiesIn height (run_span p y run)
   pub alike : (i : ℕ) → i < run.n → (m : List ℕ)

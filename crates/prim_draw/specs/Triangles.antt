@@ -15,7 +15,7 @@ use Rattle.texel_lanes.specs.Texture.{HasPage, IsTexture}
 use Rattle.span_lanes.specs.Shade.{AreInside, HasInside, IsBrush, paint_pixel, texture_of}
 use Rattle.span_lanes.specs.Cells.{row_cells}
 use Rattle.prim_draw.specs.Boxes.{clip_rect_of, cells_of, clipped}
-use Rattle.prim_draw.specs.Pattern.{uniform, painted_cells}
+use Rattle.span_lanes.specs.Pattern.{uniform, painted_cells}
 use Rattle.prim_draw.specs.Settings.{brush_in, placed, texture_in}
 use Rattle.span_lanes.specs.declared.clip_rect.ClipRect.{ClipRect}
 use Rattle.span_lanes.specs.declared.span.DrawState.{DrawState}

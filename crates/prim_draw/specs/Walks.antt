@@ -6,7 +6,7 @@ use Rattle.edge_walk.specs.Walk.{AreRows}
 use Rattle.edge_walk.specs.declared.row_scan.RowScan.{RowScan}
 use Rattle.span_lanes.specs.Cells.{Stage}
 use Rattle.prim_draw.specs.Boxes.{IsOnScreen, clip_rect_of}
-use Rattle.prim_draw.specs.Pattern.{uniform}
+use Rattle.span_lanes.specs.Pattern.{uniform}
 use Rattle.prim_draw.specs.Rows.{DrawsRows, Figure}
 use Rattle.prim_draw.specs.Triangles.{row_inside}
 use Rattle.span_lanes.specs.declared.span.DrawState.{DrawState}

@@ -9,47 +9,16 @@ ghost use Rattle.prim_draw.specs.Boxes.{IsOnScreen};
 ghost use Rattle.prim_draw.specs.Walks.{DrawsTriangle};
 
 use crate::boxes::clip_rect_of;
-use crate::row_drawer::{RowDrawer, draw_rows};
+use crate::row_drawer::draw_rows;
 use crate::triangle_rows::rows_of;
 use edge_walk::Tri;
 use px_num::Box2;
 use span_lanes::{
-    BlockRowDrawer, Brush, CachedClutDrawer, ContiguousDrawer, DrawState, FlatTexelsDrawer,
-    GouraudTexelsDrawer, Paint, RowMethod, Run, SpanDrawer, Texture, row_method,
+    Brush, CachedClutDrawer, ContiguousDrawer, DrawState, FlatTexelsDrawer, GouraudTexelsDrawer,
+    Paint, RowMethod, SpanDrawer, Texture, row_method,
 };
 use std::sync::ledger::Ledger;
 use vram_store::{Steps, Vram};
-
-/// The drawer of a textured triangle's rows in a clip rectangle.
-#[derive(Drop)]
-struct TriangleRowDrawer<P> {
-    drawer: P,
-}
-
-impl<P: BlockRowDrawer> RowDrawer for TriangleRowDrawer<P> {
-    ghost use Rattle.span_lanes.specs.SpanDrawer.{IsClutFresh};
-    ghost use Rattle.prim_draw.specs.Pattern.{uniform};
-    ghost use Rattle.prim_draw.specs.Rows.{LiesInClip};
-
-    ghost pattern = { λ rows. uniform (P.held_in_clip rows.drawer).held.state };
-
-    ghost reaches = { λ rows. LiesInClip (P.held_in_clip rows.drawer).clip_rect };
-
-    ghost ready = { λ rows. IsClutFresh (P.held_in_clip rows.drawer).held };
-
-    #[inline(always)]
-    fn draw_run<L: Ledger>(
-        &mut self,
-        vram: &mut Vram,
-        found: Option<Run>,
-        y: u16,
-        steps: &mut Steps<L>,
-    ) {
-        if let Some(run) = found {
-            self.drawer.draw(vram, run, y, steps);
-        }
-    }
-}
 
 // A textured triangle in a box, with its draw state and its row method.
 #[derive(Clone, Copy)]
@@ -72,9 +41,13 @@ impl ClippedTriangle<'_> {
             (record { m = vram.old; steps = steps.old }) (record { m = vram.new; steps = steps.new }) }
     {
         let clip_rect = clip_rect_of(self.clip);
-        let mut drawer = TriangleRowDrawer {
-            drawer: CachedClutDrawer::new(self.own, self.texture, self.brush, &clip_rect, color),
-        };
+        let mut drawer = CachedClutDrawer::new(
+            self.own,
+            self.texture,
+            self.brush,
+            &clip_rect,
+            color,
+        );
         draw_rows(vram, &mut rows_of(self.tri, self.clip), &mut drawer, steps);
     }
 
@@ -85,9 +58,7 @@ impl ClippedTriangle<'_> {
             (record { m = vram.old; steps = steps.old }) (record { m = vram.new; steps = steps.new }) }
     {
         let clip_rect = clip_rect_of(self.clip);
-        let mut drawer = TriangleRowDrawer {
-            drawer: ContiguousDrawer::new(self.own, self.texture, self.brush, &clip_rect),
-        };
+        let mut drawer = ContiguousDrawer::new(self.own, self.texture, self.brush, &clip_rect);
         draw_rows(vram, &mut rows_of(self.tri, self.clip), &mut drawer, steps);
     }
 
@@ -98,9 +69,13 @@ impl ClippedTriangle<'_> {
             (record { m = vram.old; steps = steps.old }) (record { m = vram.new; steps = steps.new }) }
     {
         let clip_rect = clip_rect_of(self.clip);
-        let mut drawer = TriangleRowDrawer {
-            drawer: FlatTexelsDrawer::new(self.own, self.texture, self.brush, &clip_rect, color),
-        };
+        let mut drawer = FlatTexelsDrawer::new(
+            self.own,
+            self.texture,
+            self.brush,
+            &clip_rect,
+            color,
+        );
         draw_rows(vram, &mut rows_of(self.tri, self.clip), &mut drawer, steps);
     }
 
@@ -111,9 +86,7 @@ impl ClippedTriangle<'_> {
             (record { m = vram.old; steps = steps.old }) (record { m = vram.new; steps = steps.new }) }
     {
         let clip_rect = clip_rect_of(self.clip);
-        let mut drawer = TriangleRowDrawer {
-            drawer: GouraudTexelsDrawer::new(self.own, self.texture, self.brush, &clip_rect),
-        };
+        let mut drawer = GouraudTexelsDrawer::new(self.own, self.texture, self.brush, &clip_rect);
         draw_rows(vram, &mut rows_of(self.tri, self.clip), &mut drawer, steps);
     }
 

@@ -8,14 +8,14 @@ ghost use Rattle.prim_draw.specs.Walks.{DrawsTriangle};
 ghost use Rattle.prim_draw.specs.Triangles.{IsDrawState, triangle_state};
 ghost use Rattle.prim_draw.specs.Solids.{IsEven, flat_state, solid_state};
 
-use crate::row_drawer::{RowDrawer, draw_rows};
+use crate::row_drawer::draw_rows;
 use crate::settings::brush_in;
 use crate::style::Style;
 use crate::triangle_rows::rows_of;
 use edge_walk::Tri;
 use gp1_status::Regs;
 use px_num::Box2;
-use span_lanes::{Brush, Paint, Run, Span, draw_solid, solid_of};
+use span_lanes::{Brush, Paint, RowDrawer, Run, Span, draw_solid, solid_of};
 use std::sync::ledger::Ledger;
 use vram_store::{Steps, Vram};
 
@@ -87,32 +87,24 @@ impl Solid {
 }
 
 impl RowDrawer for Solid {
-    ghost use Rattle.prim_draw.specs.Pattern.{uniform};
+    ghost use Rattle.span_lanes.specs.Pattern.{uniform};
     ghost use Rattle.prim_draw.specs.Solids.{IsEven, solid_state};
 
     ghost pattern = { λ solid. uniform (solid_state solid) };
 
     ghost reaches = { λ solid y run. Unit {0} };
 
-    ghost ready = { λ solid m. IsEven solid };
+    ghost fresh = { λ solid m. IsEven solid };
 
     #[inline(always)]
-    fn draw_run<L: Ledger>(
-        &mut self,
-        vram: &mut Vram,
-        found: Option<Run>,
-        y: u16,
-        steps: &mut Steps<L>,
-    ) {
-        if let Some(run) = found {
-            let span = Span {
-                x: run.x,
-                y,
-                n: run.n,
-                paint: Paint::Flat { color: self.color },
-                brush: self.brush,
-            };
-            draw_solid(vram, &span, self.halfword, steps);
-        }
+    fn draw<L: Ledger>(&mut self, vram: &mut Vram, run: Run, y: u16, steps: &mut Steps<L>) {
+        let span = Span {
+            x: run.x,
+            y,
+            n: run.n,
+            paint: Paint::Flat { color: self.color },
+            brush: self.brush,
+        };
+        draw_solid(vram, &span, self.halfword, steps);
     }
 }

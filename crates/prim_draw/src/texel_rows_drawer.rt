@@ -3,8 +3,7 @@ ghost use Rattle.std.specs.Prelude.{◌≡◌, ◌≤◌, ◌+◌, ◌-◌};
 ghost use Rattle.span_lanes.specs.Shade.{row_u};
 
 use crate::clipped_rectangle::ClippedRectangle;
-use crate::row_drawer::RowDrawer;
-use span_lanes::{Run, TexelRowDrawer, row_u};
+use span_lanes::{RowDrawer, Run, TexelRowDrawer, row_u};
 use std::sync::ledger::Ledger;
 use vram_store::{Steps, Vram};
 
@@ -44,19 +43,11 @@ impl<P: TexelRowDrawer> RowDrawer for RectangleRowDrawer<'_, P> {
 
     ghost reaches = { λ rows. IsWholeRow rows.rectangle.clip_rect.now };
 
-    ghost ready = { λ rows. IsReadyFor rows.rectangle rows.first (P.rows_held rows.drawer) };
+    ghost fresh = { λ rows. IsReadyFor rows.rectangle rows.first (P.rows_held rows.drawer) };
 
     #[inline(always)]
-    fn draw_run<L: Ledger>(
-        &mut self,
-        vram: &mut Vram,
-        found: Option<Run>,
-        y: u16,
-        steps: &mut Steps<L>,
-    ) {
-        if let Some(_) = found {
-            let v = self.first.texel_row(y);
-            self.drawer.draw_row(vram, y, v, steps);
-        }
+    fn draw<L: Ledger>(&mut self, vram: &mut Vram, _run: Run, y: u16, steps: &mut Steps<L>) {
+        let v = self.first.texel_row(y);
+        self.drawer.draw_row(vram, y, v, steps);
     }
 }

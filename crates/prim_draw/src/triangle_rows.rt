@@ -35,7 +35,7 @@ pub(crate) fn rows_of<'a>(tri: &'a Tri, clip: &'a Box2) -> TriangleRows<'a>
 }
 
 impl Rows for TriangleRows<'_> {
-    ghost use Rattle.prim_draw.specs.Rows.{LiesInClip};
+    ghost use Rattle.span_lanes.specs.Pattern.{LiesInClip};
     ghost use Rattle.prim_draw.specs.Triangles.{IsRun, row_inside};
     ghost use Rattle.prim_draw.specs.Walks.{StandAt};
 

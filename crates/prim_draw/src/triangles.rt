@@ -14,40 +14,15 @@ ghost use Rattle.prim_draw.specs.Walks.{DrawsTriangle};
 use crate::boxes::clipped;
 use crate::clipped_triangle::draw_with_state;
 use crate::corners::Corners;
-use crate::row_drawer::RowDrawer;
 use crate::settings::{brush_in, texture_in};
 use crate::solid::solid_color_in;
 use crate::style::Style;
 use edge_walk::Tri;
 use gp1_status::Regs;
 use px_num::Box2;
-use span_lanes::{DrawState, Paint, Run, SpanDrawer};
+use span_lanes::{DrawState, Paint};
 use std::sync::ledger::Ledger;
 use vram_store::{Steps, Vram};
-
-impl RowDrawer for SpanDrawer {
-    ghost use Rattle.span_lanes.specs.SpanDrawer.{IsClutFresh};
-    ghost use Rattle.prim_draw.specs.Pattern.{uniform};
-
-    ghost pattern = { λ drawer. uniform drawer.state };
-
-    ghost reaches = { λ drawer y run. Unit {0} };
-
-    ghost ready = { IsClutFresh };
-
-    #[inline(always)]
-    fn draw_run<L: Ledger>(
-        &mut self,
-        vram: &mut Vram,
-        found: Option<Run>,
-        y: u16,
-        steps: &mut Steps<L>,
-    ) {
-        if let Some(run) = found {
-            self.draw(vram, run, y, steps);
-        }
-    }
-}
 
 #[tactic(auto, unfolding(crate::specs::Triangles::triangle_paint))]
 fn paint_of(regs: &Regs, style: &Style, tri: &Tri) -> Paint

@@ -9,10 +9,8 @@ use crate::opaque::is_opaque;
 use crate::row_shading::has_undithered_clut16;
 use crate::shading::one_color;
 use crate::texel_run::does_not_wrap;
-use crate::{Brush, ClipRect, Run, Texture};
+use crate::{Brush, ClipRect, Texture};
 use edge_walk::Tri;
-use std::sync::ledger::Ledger;
-use vram_store::{Steps, Vram};
 
 /// The method that draws the rows of a textured triangle in a clip rectangle without a hazard. Each method has its own
 /// drawer.
@@ -28,32 +26,6 @@ pub enum RowMethod {
     FlatTexelsByCoords { color: u32 },
     /// The coordinates and the colour of each texel are computed ([`GouraudTexelsDrawer`](crate::GouraudTexelsDrawer)).
     GouraudTexels,
-}
-
-/// Draws the spans of a textured triangle in a clip rectangle. No span in the clip rectangle has a hazard. What all
-/// spans share is computed once.
-pub trait BlockRowDrawer: Drop {
-    ghost use Rattle.std.specs.Prelude.{◌≡◌};
-    ghost use Rattle.vram_store.specs.Vram.{height_of};
-    ghost use Rattle.span_lanes.specs.ClipRect.{BlockDrawerView, IsInClip};
-    ghost use Rattle.span_lanes.specs.SpanDrawer.{DrawsCells, IsClutFresh, state_span};
-    ghost use Rattle.span_lanes.specs.Shade.{IsSpan, LiesIn};
-
-    // The draw state, the cached palette, if any, and the clip rectangle.
-    ghost held_in_clip: { Self → BlockDrawerView };
-
-    /// Draws the cells of `run` in row `y`, as [`draw_span`](crate::draw_span) does. They must be in the clip
-    /// rectangle. The cached palette, if any, must equal the one in video memory; after the call it does so again.
-    fn draw<L: Ledger>(&mut self, vram: &mut Vram, run: Run, y: u16, steps: &mut Steps<L>)
-        requires span { IsSpan (state_span (held_in_clip self.old).held.state run.x y run.n) }
-        requires height { LiesIn (height_of vram.old) (state_span (held_in_clip self.old).held.state run.x y run.n) }
-        requires clip_rect { IsInClip (held_in_clip self.old).clip_rect run.x y run.n }
-        requires fresh { IsClutFresh (held_in_clip self.old).held vram.old }
-        ensures state { (held_in_clip self.new).held.state ≡ (held_in_clip self.old).held.state }
-        ensures clip_rect { (held_in_clip self.new).clip_rect ≡ (held_in_clip self.old).clip_rect }
-        ensures fresh { IsClutFresh (held_in_clip self.new).held vram.new }
-        ensures drawn { DrawsCells (state_span (held_in_clip self.old).held.state run.x y run.n)
-            (record { m = vram.old; steps = steps.old }) (record { m = vram.new; steps = steps.new }) };
 }
 
 // Returns true only if the texels of each row are contiguous. The triangle is then unscaled, the window leaves columns

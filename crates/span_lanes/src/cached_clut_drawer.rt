@@ -3,7 +3,6 @@ ghost use Rattle.span_lanes.specs.BlockDrawer.{SuitsMethod};
 ghost use Rattle.span_lanes.specs.declared.block_drawer.RowMethod.TheVariants.{CachedClut};
 ghost use Rattle.span_lanes.specs.declared.span.Paint.TheVariants.{TexturedTri};
 
-use crate::block_drawer::BlockRowDrawer;
 use crate::cached_clut::draw_cached;
 use crate::colored_clut::ColoredClut;
 use crate::opaque::opaque;
@@ -12,7 +11,7 @@ use crate::shading::Shading;
 use crate::span::empty_span;
 use crate::texel_run::triangle_row_run;
 use crate::triangle_setup::{TriangleSetup, triangle_setup_with};
-use crate::{Brush, ClipRect, Run, Span, Texture};
+use crate::{Brush, ClipRect, RowDrawer, Run, Span, Texture};
 use edge_walk::Tri;
 use std::marker::Model;
 use std::sync::ledger::Ledger;
@@ -70,8 +69,15 @@ impl CachedClutDrawer {
     }
 }
 
-impl BlockRowDrawer for CachedClutDrawer {
-    ghost held_in_clip = { λ drawer. drawer };
+impl RowDrawer for CachedClutDrawer {
+    ghost use Rattle.span_lanes.specs.Pattern.{LiesInClip, uniform};
+    ghost use Rattle.span_lanes.specs.SpanDrawer.{IsClutFresh};
+
+    ghost pattern = { λ drawer. uniform drawer.held.state };
+
+    ghost reaches = { λ drawer. LiesInClip drawer.clip_rect };
+
+    ghost fresh = { λ drawer. IsClutFresh drawer.held };
 
     #[inline(always)]
     #[tactic(auto, using(crate::proofs::ColoredClutLemmas::kept_of_fresh, crate::proofs::ColoredClutLemmas::fresh_of_kept))]

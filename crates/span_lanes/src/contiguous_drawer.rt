@@ -3,12 +3,11 @@ ghost use Rattle.span_lanes.specs.BlockDrawer.{SuitsMethod};
 ghost use Rattle.span_lanes.specs.declared.block_drawer.RowMethod.TheVariants.{Contiguous};
 ghost use Rattle.span_lanes.specs.declared.span.Paint.TheVariants.{TexturedTri};
 
-use crate::block_drawer::BlockRowDrawer;
 use crate::colored_clut::ColoredClut;
 use crate::draw::draw_contiguous_row;
 use crate::span::empty_span;
 use crate::triangle_setup::{TriangleSetup, triangle_setup_of};
-use crate::{Brush, ClipRect, Run, Span, Texture};
+use crate::{Brush, ClipRect, RowDrawer, Run, Span, Texture};
 use edge_walk::Tri;
 use std::marker::Model;
 use std::sync::ledger::Ledger;
@@ -61,8 +60,15 @@ impl ContiguousDrawer {
     }
 }
 
-impl BlockRowDrawer for ContiguousDrawer {
-    ghost held_in_clip = { λ drawer. drawer };
+impl RowDrawer for ContiguousDrawer {
+    ghost use Rattle.span_lanes.specs.Pattern.{LiesInClip, uniform};
+    ghost use Rattle.span_lanes.specs.SpanDrawer.{IsClutFresh};
+
+    ghost pattern = { λ drawer. uniform drawer.held.state };
+
+    ghost reaches = { λ drawer. LiesInClip drawer.clip_rect };
+
+    ghost fresh = { λ drawer. IsClutFresh drawer.held };
 
     #[inline(always)]
     #[tactic(auto, using(crate::proofs::ColoredClutLemmas::kept_of_fresh, crate::proofs::ColoredClutLemmas::fresh_of_kept))]

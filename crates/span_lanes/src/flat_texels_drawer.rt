@@ -4,12 +4,11 @@ ghost use Rattle.span_lanes.specs.declared.block_drawer.RowMethod.TheVariants.{F
 ghost use Rattle.span_lanes.specs.declared.span.Paint.TheVariants.{TexturedTri};
 
 use crate::attribute_ramps::{CoordRamps, coord_ramps_of};
-use crate::block_drawer::BlockRowDrawer;
 use crate::colored_clut::ColoredClut;
 use crate::flat_texels::draw_flat_texels;
 use crate::sampler::FlatTexels;
 use crate::span::empty_span;
-use crate::{Brush, ClipRect, Run, Span, Texture};
+use crate::{Brush, ClipRect, RowDrawer, Run, Span, Texture};
 use edge_walk::Tri;
 use std::marker::Model;
 use std::sync::ledger::Ledger;
@@ -70,8 +69,15 @@ impl FlatTexelsDrawer {
     }
 }
 
-impl BlockRowDrawer for FlatTexelsDrawer {
-    ghost held_in_clip = { λ drawer. drawer };
+impl RowDrawer for FlatTexelsDrawer {
+    ghost use Rattle.span_lanes.specs.Pattern.{LiesInClip, uniform};
+    ghost use Rattle.span_lanes.specs.SpanDrawer.{IsClutFresh};
+
+    ghost pattern = { λ drawer. uniform drawer.held.state };
+
+    ghost reaches = { λ drawer. LiesInClip drawer.clip_rect };
+
+    ghost fresh = { λ drawer. IsClutFresh drawer.held };
 
     #[inline(always)]
     #[tactic(auto, using(crate::proofs::ColoredClutLemmas::kept_of_fresh, crate::proofs::ColoredClutLemmas::fresh_of_kept))]

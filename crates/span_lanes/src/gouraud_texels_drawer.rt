@@ -4,10 +4,9 @@ ghost use Rattle.span_lanes.specs.declared.block_drawer.RowMethod.TheVariants.{G
 ghost use Rattle.span_lanes.specs.declared.span.Paint.TheVariants.{TexturedTri};
 
 use crate::attribute_ramps::{AttributeRamps, attribute_ramps_of};
-use crate::block_drawer::BlockRowDrawer;
 use crate::gouraud_texels::draw_gouraud_texels;
 use crate::span::empty_span;
-use crate::{Brush, ClipRect, Run, Span, Texture};
+use crate::{Brush, ClipRect, RowDrawer, Run, Span, Texture};
 use edge_walk::Tri;
 use std::marker::Model;
 use std::sync::ledger::Ledger;
@@ -60,8 +59,15 @@ impl GouraudTexelsDrawer {
     }
 }
 
-impl BlockRowDrawer for GouraudTexelsDrawer {
-    ghost held_in_clip = { λ drawer. drawer };
+impl RowDrawer for GouraudTexelsDrawer {
+    ghost use Rattle.span_lanes.specs.Pattern.{LiesInClip, uniform};
+    ghost use Rattle.span_lanes.specs.SpanDrawer.{IsClutFresh};
+
+    ghost pattern = { λ drawer. uniform drawer.held.state };
+
+    ghost reaches = { λ drawer. LiesInClip drawer.clip_rect };
+
+    ghost fresh = { λ drawer. IsClutFresh drawer.held };
 
     #[inline(always)]
     fn draw<L: Ledger>(&mut self, vram: &mut Vram, run: Run, y: u16, steps: &mut Steps<L>) {

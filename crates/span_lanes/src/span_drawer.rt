@@ -1,12 +1,12 @@
 // The drawer of spans with any draw state.
 ghost use Rattle.vram_store.specs.Vram.{height_of};
-ghost use Rattle.span_lanes.specs.SpanDrawer.{DrawsCells, state_of};
+ghost use Rattle.span_lanes.specs.SpanDrawer.{DrawsCells};
 ghost use Rattle.span_lanes.specs.Shade.{IsSpan, LiesIn};
 
 use crate::colored_clut::ColoredClut;
 use crate::draw::draw_ready;
 use crate::paint_setup::{PaintSetup, paint_setup_of};
-use crate::{DrawState, Run, Span};
+use crate::{DrawState, RowDrawer, Run, Span};
 use std::marker::Model;
 use std::sync::ledger::Ledger;
 use vram_store::{Steps, Vram};
@@ -34,9 +34,7 @@ impl Model for SpanDrawer {
 
 impl SpanDrawer {
     ghost use Rattle.std.specs.Prelude.{◌≡◌};
-    ghost use Rattle.vram_store.specs.Vram.{height_of};
-    ghost use Rattle.span_lanes.specs.SpanDrawer.{state_span, new_drawer, DrawsCells, IsClutFresh};
-    ghost use Rattle.span_lanes.specs.Shade.{IsSpan, LiesIn};
+    ghost use Rattle.span_lanes.specs.SpanDrawer.{new_drawer};
 
     /// Returns a drawer with this draw state.
     #[inline(always)]
@@ -55,20 +53,21 @@ impl SpanDrawer {
             last: None,
         }
     }
+}
 
-    /// Draws the cells of `run` in row `y`, as [`draw_span`] does. The cached palette, if any, must equal the one in
-    /// video memory; after the call it does so again.
+impl RowDrawer for SpanDrawer {
+    ghost use Rattle.span_lanes.specs.Pattern.{uniform};
+    ghost use Rattle.span_lanes.specs.SpanDrawer.{IsClutFresh};
+
+    ghost pattern = { λ drawer. uniform drawer.state };
+
+    ghost reaches = { λ drawer y run. Unit {0} };
+
+    ghost fresh = { IsClutFresh };
+
     #[inline(always)]
     #[tactic(auto, using(crate::proofs::ColoredClutLemmas::kept_of_fresh, crate::proofs::ColoredClutLemmas::fresh_of_kept))]
-    pub fn draw<L: Ledger>(&mut self, vram: &mut Vram, run: Run, y: u16, steps: &mut Steps<L>)
-        requires span { IsSpan (state_span self.old.state run.x y run.n) }
-        requires height { LiesIn (height_of vram.old) (state_span self.old.state run.x y run.n) }
-        requires fresh { IsClutFresh self.old vram.old }
-        ensures state { self.new.state ≡ self.old.state }
-        ensures fresh { IsClutFresh self.new vram.new }
-        ensures drawn { DrawsCells (state_span self.old.state run.x y run.n)
-            (record { m = vram.old; steps = steps.old }) (record { m = vram.new; steps = steps.new }) }
-    {
+    fn draw<L: Ledger>(&mut self, vram: &mut Vram, run: Run, y: u16, steps: &mut Steps<L>) {
         self.span.x = run.x;
         self.span.y = y;
         self.span.n = run.n;

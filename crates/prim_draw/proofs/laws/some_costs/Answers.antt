@@ -11,7 +11,7 @@ use Rattle.prim_draw.specs.Boxes.{some_box, overlap, clip_rect_of}
 use Rattle.prim_draw.specs.Costs.{draw_cost, polygon_cost, rectangle_cost, side_by_side, triangle_cost}
 use Rattle.prim_draw.specs.Laws.{open_registers, raw_rectangle, white_half}
 use Rattle.prim_draw.specs.Parts.{rectangle_style}
-use Rattle.prim_draw.specs.Pattern.{Pattern, span_from}
+use Rattle.span_lanes.specs.Pattern.{Pattern, span_from}
 use Rattle.prim_draw.specs.Rectangles.{extent_at, pattern_of, rectangle_box, rectangle_setup_in, rectangle_paint}
 use Rattle.prim_draw.proofs.RowLemmas.{span_of_row}
 use Rattle.gp1_status.specs.Drawing.{drawing_area}

@@ -1,7 +1,7 @@
 use Rattle.std.proofs.Common.{ℕ, ◌≡◌, ◌+◌, ◌∙◌, ap, subst, arith, List}
 use Rattle.px_num.specs.declared.shape.Cell.{Cell}
 use Rattle.span_lanes.specs.declared.clip_rect.ClipRect.{ClipRect}
-use Rattle.prim_draw.specs.Pattern.{Pattern}
+use Rattle.span_lanes.specs.Pattern.{Pattern}
 use Rattle.prim_draw.specs.Rows.{DrawsRun}
 use Rattle.prim_draw.specs.Triangles.{run_cells}
 use Rattle.prim_draw.proofs.RowLemmas.{rows_next}
@@ -23,15 +23,15 @@ loop-j-preserved g c =
           h.drawn
           (subst (λ y. DrawsRun (g.P.RowDrawer.pattern c.args.drawer.now) y found
           (record { m = c.loop-j.vram; steps = c.loop-j.steps })
-          (record { m = c.draw_run.new.vram; steps = c.draw_run.new.steps })) here
+          (record { m = c.draw_found.new.vram; steps = c.draw_found.new.steps })) here
           (subst (λ (p : Pattern). DrawsRun p (b.y + j) found
           (record { m = c.loop-j.vram; steps = c.loop-j.steps })
-          (record { m = c.draw_run.new.vram; steps = c.draw_run.new.steps })) h.pattern c.draw_run.ensures.drawn));
+          (record { m = c.draw_found.new.vram; steps = c.draw_found.new.steps })) h.pattern c.draw_found.ensures.drawn));
       stands = subst (g.R.Rows.stands c.run_at-run.new.self) next c.run_at-run.ensures.next;
       within = c.run_at-run.ensures.clip_rect ∙ h.within;
       cells = c.run_at-run.ensures.cells ∙ h.cells;
       gives = λ y run is. h.gives y run (c.run_at-run.ensures.same y run is);
-      pattern = c.draw_run.ensures.pattern ∙ h.pattern;
-      reaches = λ y run is. c.draw_run.ensures.reaches y run (h.reaches y run is);
-      ready = c.draw_run.ensures.ready;
+      pattern = c.draw_found.ensures.pattern ∙ h.pattern;
+      reaches = λ y run is. c.draw_found.ensures.reaches y run (h.reaches y run is);
+      fresh = c.draw_found.ensures.fresh;
     }

@@ -18,5 +18,5 @@ invariant-loop-j g l = record {
   gives : (y : ℕ) (run : Run) → g.R.Rows.gives l.rows y run → g.R.Rows.gives l.initial.rows y run;
   pattern : g.P.RowDrawer.pattern l.drawer ≡ g.P.RowDrawer.pattern l.initial.drawer;
   reaches : (y : ℕ) (run : Run) → g.P.RowDrawer.reaches l.initial.drawer y run → g.P.RowDrawer.reaches l.drawer y run;
-  ready : g.P.RowDrawer.ready l.drawer l.vram;
+  fresh : g.P.RowDrawer.fresh l.drawer l.vram;
 }

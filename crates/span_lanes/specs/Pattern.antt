@@ -2,11 +2,14 @@
 use Rattle.std.specs.Prelude.{ℕ, List, Option}
 use Rattle.px_num.specs.declared.shape.Cell.{Cell}
 use Rattle.span_lanes.specs.Cells.{drawn_cells}
+use Rattle.span_lanes.specs.ClipRect.{IsInClip}
 use Rattle.span_lanes.specs.Shade.{paint_pixel}
 use Rattle.span_lanes.specs.declared.span.Brush.{Brush}
 use Rattle.span_lanes.specs.declared.span.Paint.{Paint}
 use Rattle.span_lanes.specs.declared.span.Span.{Span}
+use Rattle.span_lanes.specs.declared.clip_rect.ClipRect.{ClipRect}
 use Rattle.span_lanes.specs.declared.span.DrawState.{DrawState}
+use Rattle.span_lanes.specs.declared.span.Run.{Run}
 
 -- the paint of the cells of a row, as a function of the first of them, and their brush
 pub record Pattern : Type 0 where
@@ -28,3 +31,11 @@ painted_cells p cells m = drawn_cells (pixel_at p) p.brush.mask cells m
 -- the span of n cells of a row, from the first to the right
 abbrev pub span_from : Pattern → Cell → (n : ℕ) → Span
 span_from p first n = record { x = first.x; y = first.y; n = n; paint = p.paint first; brush = p.brush }
+
+-- a run of cells of row y
+abbrev pub run_span : Pattern → ℕ → Run → Span
+run_span p y run = span_from p (record { x = run.x; y = y }) run.n
+
+-- cells of row y that lie in a clip rectangle
+abbrev pub LiesInClip : ClipRect → ℕ → Run → Type 0
+LiesInClip b y run = IsInClip b run.x y run.n
