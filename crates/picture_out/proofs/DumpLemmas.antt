@@ -1,4 +1,4 @@
--- The bytes of cells, part by part.
+-- The bytes of consecutive parts of a list of cells.
 use Rattle.std.proofs.Common.{◌≡◌, ◌≤◌, ◌+◌, ◌*◌, ◌-◌, ◌++◌, ℕ, List, length, take, drop, arith, refl, ap, sym}
 use Rattle.std.proofs.Common.{subst, ◌∙◌, slice_range}
 use Rattle.std.proofs.lemmas.Grind.{flat_map-append, common_steps}
@@ -8,7 +8,7 @@ use Rattle.std.proofs.Math.Seq.{take-add}
 use borrow.Rule.Slice.PartMut.{put_mid}
 use Rattle.picture_out.specs.Dump.{dump, cell_bytes}
 
--- n cells more
+-- the bytes of the first i cells and of the next n
 pub dump_more : (m : List ℕ) (i n : ℕ) → dump (take (i + n) m) ≡ dump (take i m) ++ dump (take n (drop i m))
 dump_more m i n = ap dump (take-add i n m) ∙ flat_map-append cell_bytes (take i m) (take n (drop i m))
 
@@ -32,14 +32,14 @@ whole_row m bytes y k so_far all long =
     let P : ℕ → Type 0 = λ n. take (32 * k) bytes ≡ dump (take n (drop (1024 * y) m)) in
     rw (row_is m y) (sym all_of ∙ subst P e so_far)
 
--- one row more
+-- the bytes of the first y rows and of the next one
 pub row_on : (m bytes : List ℕ) (y : ℕ) → bytes ≡ dump (slice_range m (1024 * y) (1024 * y + 1024))
     → dump (take (1024 * (y + 1)) m) ≡ dump (take (1024 * y) m) ++ bytes
 row_on m bytes y row =
     let e : 1024 * (y + 1) ≡ 1024 * y + 1024 = omega arith in
     rw (e, dump_more m (1024 * y) 1024, ← row_is m y, ← row) refl
 
--- the rows before one of them, it, and those after it
+-- the rows before row y, row y, and the rows after it
 pub dump_three : (m : List ℕ) (y : ℕ)
     → dump m ≡ dump (take (1024 * y) m) ++
     (dump (slice_range m (1024 * y) (1024 * y + 1024)) ++ dump (drop 1024 (drop (1024 * y) m)))

@@ -8,9 +8,9 @@ use dev_io::{Failed, Sink, write_all};
 use std::sync::ledger::Ledger;
 use vram_store::{Steps, Vram};
 
-/// Writes the cells in order, row by row, each low byte first: 2,048 bytes and 64 store steps a row.
+/// Writes all cells row by row, the low byte of each cell first: 2,048 bytes and 64 store steps per row.
 ///
-/// It fails only where the sink does, and then a proper prefix of these bytes was written.
+/// Fails only if the sink fails. A proper prefix of these bytes was then written.
 pub fn write_vram<K: Sink, L: Ledger>(
     vram: &Vram,
     out: &mut K,
@@ -27,7 +27,7 @@ pub fn write_vram<K: Sink, L: Ledger>(
     Ok(())
 }
 
-/// The bytes of a row.
+/// Returns the bytes of row `y`. Costs 64 store steps.
 pub(crate) fn row_bytes<L: Ledger>(vram: &Vram, y: u16, steps: &mut Steps<L>) -> [u8; 2048]
     requires { y < height_of vram.now }
     ensures bytes { result ≡ dump (slice_range vram.now (1024 * y) (1024 * y + 1024)) }
@@ -42,6 +42,7 @@ pub(crate) fn row_bytes<L: Ledger>(vram: &Vram, y: u16, steps: &mut Steps<L>) ->
     bytes
 }
 
+// Writes 16 cells as 32 bytes, the low byte of each cell first.
 fn put_lanes(lanes: &[u16; 16], bytes: &mut [u8])
     requires { length bytes.old ≡ 32 }
     ensures lanes { bytes.new ≡ dump lanes.now }

@@ -1,9 +1,10 @@
-//! What video memory looks like from outside: the dump of all its cells, the shown picture, and the SHA-256 of each.
+//! Video memory as output: the dump of all cells, the shown picture as PPM, and the SHA-256 of each.
 #![tactic(auto)]
 
 mod colors;
 mod dump;
 mod picture;
+mod rows;
 mod sums;
 
 pub use dump::write_vram;

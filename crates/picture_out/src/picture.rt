@@ -5,7 +5,7 @@ ghost use Rattle.gp1_status.specs.Shape.{shape_of};
 ghost use Rattle.picture_out.specs.Picture.{display_of, pixels_from, picture_head, pixel_count, picture_of, picture};
 ghost use Rattle.picture_out.specs.Picture.{cells_of_pixel, picture_cost};
 
-use crate::colors::pixel;
+use crate::rows::{left_in_row, put_pixels};
 use dev_io::{Failed, Sink, write_all, write_pieces};
 use gp1_status::Regs;
 use itoa::Buffer;
@@ -13,11 +13,11 @@ use px_num::{bit, wrap_at, wrap_x};
 use std::sync::ledger::Ledger;
 use vram_store::{Steps, Vram};
 
-/// How many pixels are given to the sink at once, at most.
+/// The greatest number of pixels in one write.
 pub(crate) const PIECE: u32 = 1024;
 
-/// The part of video memory that is shown: from which cell on, how many pixels a row and how many rows, and whether a
-/// pixel has 24 bits.
+/// The part of video memory that is shown. `x`, `y`: its first cell. `width`: pixels per row. `lines`: number of rows.
+/// `is_deep`: whether a pixel has 24 bits.
 #[derive(Clone, Copy)]
 pub(crate) struct DisplayArea {
     pub x: u16,
@@ -27,17 +27,17 @@ pub(crate) struct DisplayArea {
     pub is_deep: bool,
 }
 
-/// The width and height of the shown picture; none where it has no pixel.
+/// Returns the width and height of the shown picture in pixels, or `None` if it has no pixel.
 pub fn shape(regs: &Regs) -> Option<(u16, u16)>
     ensures { result ≡ shape_of regs.now }
 {
     regs.shape()
 }
 
-/// Writes the shown picture as PPM: `P6`, its width and height and `255` in lines, and then three bytes a pixel, red
-/// first, rows from the top.
+/// Writes the shown picture as PPM. The header has three lines: `P6`, the width and height, and `255`. Each pixel is
+/// three bytes: red, green, blue. The top row is first.
 ///
-/// It fails only where the sink does, and then a proper prefix of these bytes was written.
+/// Fails only if the sink fails. A proper prefix of these bytes was then written.
 pub fn write_ppm<K: Sink, L: Ledger>(
     vram: &Vram,
     regs: &Regs,
@@ -55,7 +55,7 @@ pub fn write_ppm<K: Sink, L: Ledger>(
     }
 }
 
-// What is shown of a picture with this width and so many lines.
+// Returns the display area of a picture of `width` by `lines` pixels.
 pub(crate) fn display_area(regs: &Regs, width: u16, lines: u16) -> DisplayArea
     ensures { result ≡ display_of regs.now (record { 0 = width; 1 = lines }) }
 {
@@ -69,7 +69,7 @@ pub(crate) fn display_area(regs: &Regs, width: u16, lines: u16) -> DisplayArea
     }
 }
 
-// The head and the pixels.
+// Writes the header and the pixels.
 #[tactic(auto, unfolding(crate::specs::Picture::picture_of))]
 fn write_picture<K: Sink, L: Ledger>(
     vram: &Vram,
@@ -85,6 +85,7 @@ fn write_picture<K: Sink, L: Ledger>(
     write_pixels(vram, shown, out, steps)
 }
 
+// Writes the header.
 #[tactic(auto, unfolding(crate::specs::Picture::picture_head))]
 fn write_head<K: Sink>(shown: DisplayArea, out: &mut K) -> Result<(), Failed>
     ensures { Writes (side K.held K.faults) out.old out.new (picture_head shown) result }
@@ -96,14 +97,14 @@ fn write_head<K: Sink>(shown: DisplayArea, out: &mut K) -> Result<(), Failed>
     write_pieces(out, &[b"P6\n", width, b" ", lines, b"\n255\n"])
 }
 
-// A number in decimal digits.
+// Returns the decimal digits of `n`.
 pub(crate) fn decimal_text(buffer: &mut Buffer, n: u16) -> &[u8]
     ensures { result.now ≡ decimal n }
 {
     buffer.format(n).as_bytes()
 }
 
-// All pixels, some of them at once.
+// Writes all pixels, at most `PIECE` per write.
 fn write_pixels<K: Sink, L: Ledger>(
     vram: &Vram,
     shown: DisplayArea,
@@ -126,7 +127,7 @@ fn write_pixels<K: Sink, L: Ledger>(
     Ok(())
 }
 
-// The bytes of n pixels from number `first` on, and what is behind them.
+// Returns the bytes of `n` pixels from number `first` on. The bytes after them have no meaning.
 pub(crate) fn pixels<L: Ledger>(
     vram: &Vram,
     shown: DisplayArea,
@@ -140,12 +141,18 @@ pub(crate) fn pixels<L: Ledger>(
     ensures cost { steps.new ≡ steps.old + n * cells_of_pixel shown }
 {
     let mut bytes = [0u8; 3072];
-    for i in 0..n {
-        let pixel = pixel(vram, shown, first + i, steps);
-        let at = 3 * i as usize;
-        bytes[at] = pixel[0];
-        bytes[at + 1] = pixel[1];
-        bytes[at + 2] = pixel[2];
+    let mut done = 0;
+    while done < n {
+        let count = left_in_row(shown, first + done).min(n - done);
+        let at = 3 * done as usize;
+        put_pixels(
+            vram,
+            shown,
+            first + done,
+            &mut bytes[at..at + 3 * count as usize],
+            steps,
+        );
+        done += count;
     }
     bytes
 }

@@ -1,4 +1,4 @@
-// The SHA-256 of the bytes of video memory, and of those of the shown picture.
+// The SHA-256 of video memory and of the shown picture.
 ghost use Rattle.std.specs.Prelude.{◌≡◌, ◌+◌, ◌*◌, IsSome};
 ghost use Rattle.sha2.specs.Hashers.{Holds256};
 ghost use Rattle.sha2.specs.Sha256.{sha256};
@@ -15,7 +15,7 @@ use sha2::{Digest, Sha256};
 use std::sync::ledger::Ledger;
 use vram_store::{Steps, Vram};
 
-/// The SHA-256 of the bytes that `write_vram` writes, in as many store steps.
+/// Returns the SHA-256 of the bytes that `write_vram` writes. Costs the same number of store steps.
 pub fn vram_sum<L: Ledger>(vram: &Vram, steps: &mut Steps<L>) -> [u8; 32]
     ensures value { result ≡ sha256 (dump vram.now) }
     ensures cost { steps.new ≡ steps.old + dump_cost vram.now }
@@ -28,7 +28,7 @@ pub fn vram_sum<L: Ledger>(vram: &Vram, steps: &mut Steps<L>) -> [u8; 32]
     hasher.finalize()
 }
 
-/// The SHA-256 of the bytes that `write_ppm` writes, in as many store steps.
+/// Returns the SHA-256 of the bytes that `write_ppm` writes. Costs the same number of store steps.
 pub fn picture_sum<L: Ledger>(vram: &Vram, regs: &Regs, steps: &mut Steps<L>) -> [u8; 32]
     requires { IsSome (shape_of regs.now) }
     ensures value { result ≡ sha256 (picture vram.now regs.now) }
@@ -40,12 +40,12 @@ pub fn picture_sum<L: Ledger>(vram: &Vram, regs: &Regs, steps: &mut Steps<L>) ->
     }
 }
 
-// The head and the pixels, some of them at once.
+// Hashes the header and the pixels, at most `PIECE` pixels per update.
 fn sum_of_area<L: Ledger>(vram: &Vram, shown: DisplayArea, steps: &mut Steps<L>) -> [u8; 32]
     ensures value { result ≡ sha256 (picture_of vram.now shown) }
     ensures cost { steps.new ≡ steps.old + pixel_count shown * cells_of_pixel shown }
 {
-    let mut hasher = behind_head(shown);
+    let mut hasher = after_head(shown);
     let all = shown.width as u32 * shown.lines as u32;
     let mut done = 0;
     while done < all {
@@ -57,8 +57,8 @@ fn sum_of_area<L: Ledger>(vram: &Vram, shown: DisplayArea, steps: &mut Steps<L>)
     hasher.finalize()
 }
 
-// A hasher that was given the head.
-fn behind_head(shown: DisplayArea) -> Sha256
+// Returns a hasher that received the header.
+fn after_head(shown: DisplayArea) -> Sha256
     ensures { Holds256 result (picture_head shown) }
 {
     let mut of_width = Buffer::new();

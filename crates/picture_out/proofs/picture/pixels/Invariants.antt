@@ -1,10 +1,14 @@
-use Rattle.std.proofs.Common.{◌≡◌, ◌+◌, ◌*◌, length, take}
+use Rattle.std.proofs.Common.{◌≡◌, ◌≤◌, ◌+◌, ◌-◌, ◌*◌, length, take}
 use Rattle.picture_out.specs.Picture.{pixels_from, cells_of_pixel}
 use Rattle.picture_out.proofs.picture.pixels.Given as goal
 
-abbrev pub invariant-loop-i : goal.invariant-loop-i
-invariant-loop-i g l = record {
+abbrev pub invariant-loop-done : goal.invariant-loop-done
+invariant-loop-done g l = record {
+  within : l.done ≤ l.n;
   count : length l.bytes ≡ 3072;
-  bytes : take (3 * l.i) l.bytes ≡ pixels_from l.vram l.shown l.first l.i;
-  cost : l.steps ≡ l.initial.steps + l.i * cells_of_pixel l.shown;
+  bytes : take (3 * l.done) l.bytes ≡ pixels_from l.vram l.shown l.first l.done;
+  cost : l.steps ≡ l.initial.steps + l.done * cells_of_pixel l.shown;
 }
+
+abbrev pub decreases-loop-done : goal.decreases-loop-done
+decreases-loop-done g l = l.n - l.done

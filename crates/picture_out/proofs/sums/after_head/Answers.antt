@@ -2,7 +2,7 @@ use Rattle.std.proofs.Common.{◌∙◌, subst, List, ℕ, refl}
 use Rattle.sha2.specs.Hashers.{Holds256}
 use Rattle.picture_out.specs.Picture.{picture_head}
 use Rattle.picture_out.proofs.PictureLemmas.{five_pieces}
-use Rattle.picture_out.proofs.sums.behind_head.Goals as goal
+use Rattle.picture_out.proofs.sums.after_head.Goals as goal
 
 pub returns : goal.returns
 unfolding picture_head
