@@ -87,7 +87,7 @@ def rattle_codes() -> Table:
 def rattle_modes() -> Table:
     """Returns the library's modes by their numbers."""
     body = re.search(r'^modes cell =\n((?: .*\n)+)', text_of('crates/psxgpu_c/specs/Whole.antt'), re.M)
-    names = re.findall(r'mode\.(\w+)(?: moment\.(\w+))?', body[1] if body else '')
+    names = re.findall(r'mode\.(\w+)(?:\s+frame_trigger\.(\w+))?', body[1] if body else '')
     return numbered(name.lower() + (' marks' if moment == 'Mark' else '') for name, moment in names)
 
 

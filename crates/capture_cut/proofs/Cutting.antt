@@ -6,7 +6,7 @@ use Rattle.gpu_capture.specs.Capture.{limit}
 use Rattle.gpu_capture.specs.declared.event.Event.{Event}
 use Rattle.gpu_capture.specs.declared.progress.Progress.{Progress}
 use Rattle.picture_out.specs.Dump.{dump_cost}
-use Rattle.event_play.specs.Replay.{Tale}
+use Rattle.event_play.specs.Replay.{Replay}
 use Rattle.event_play.specs.RigState.{RigState, StandsFor}
 use Rattle.event_play.specs.Streams.{Streams, streams}
 use Rattle.gpu_core.specs.Kept.{Kept}
@@ -23,7 +23,7 @@ pub of_parts : (rig : RigState) (gpu : Kept) (ram : List ℕ) (running : Run) (p
     → ◌≡◌ {A = RigState} (record { gpu = gpu; ram = ram; running = running; played = played }) rig
 of_parts rig gpu ram running played a b c d = rw (a, b, c, d) refl
 
-rig_is : (rig : RigState) (t : Tale) → StandsFor rig t → rig_of t ≡ rig
+rig_is : (rig : RigState) (t : Replay) → StandsFor rig t → rig_of t ≡ rig
 rig_is rig t stands = of_parts rig _ _ _ _ stands.state.gpu stands.state.ram stands.state.running stands.played
 
 spent_on : (before mid now a more other : ℕ) → mid ≤ before + a → now ≤ mid + more → more ≡ other
@@ -40,10 +40,10 @@ module _ (cut : CutAt) (before now : Streams) (rig : RigState) (p : Progress)
   after = streams now.left held now.heard steps
 
   abbrev way : Way
-  way = record { version = p.version; taken = at.taken; played = at.events; tale = at.tale; later = [] }
+  way = record { version = p.version; taken = at.taken; played = at.events; replay = at.replay; later = [] }
 
-  same : snapshot at.tale ≡ rig_bytes rig
-  same = ap rig_bytes (rig_is rig at.tale at.stands.rig_is)
+  same : snapshot at.replay ≡ rig_bytes rig
+  same = ap rig_bytes (rig_is rig at.replay at.stands.rig_is)
 
   none_later : at.events ++ [] ≡ at.events
   none_later = append-nil at.events
@@ -52,8 +52,8 @@ module _ (cut : CutAt) (before now : Streams) (rig : RigState) (p : Progress)
   has_read = let P : List Event → Type 0 = λ events. HasRead before.left now.left p at.taken events in
       subst P (sym none_later) at.reads
 
-  spent : steps ≤ before.steps + at.tale.cost + dump_cost at.tale.state.gpu.parts.m
-  spent = spent_on before.steps now.steps steps at.tale.cost (dump_cost rig.gpu.parts.m) _ at.cost cost
+  spent : steps ≤ before.steps + at.replay.cost + dump_cost at.replay.state.gpu.parts.m
+  spent = spent_on before.steps now.steps steps at.replay.cost (dump_cost rig.gpu.parts.m) _ at.cost cost
       (ap (λ (k : Kept). dump_cost k.parts.m) (sym at.stands.rig_is.state.gpu))
 
   -- fewer than 2^63 events were played
@@ -61,8 +61,8 @@ module _ (cut : CutAt) (before now : Streams) (rig : RigState) (p : Progress)
   few small = omega (arith, small, at.many, at.plays.counts, at.stands.rig_is.played)
 
   -- without later events the file is the state alone
-  bare : begun at.tale [] ≡ rig_bytes rig
-  bare = append-nil (snapshot at.tale) ∙ same
+  bare : begun at.replay [] ≡ rig_bytes rig
+  bare = append-nil (snapshot at.replay) ∙ same
 
   pub state_written : (size : ℕ) → held ≡ appended now.held (rig_bytes rig) → size ≡ length (rig_bytes rig)
       → size + 4 ≤ limit → (rig.played < 2 ^ 63 → IsWritable rig) → cut.n < 2 ^ 32
@@ -78,7 +78,7 @@ module _ (cut : CutAt) (before now : Streams) (rig : RigState) (p : Progress)
       stands = at.stands;
       cost = spent;
       small = at.small;
-      writable = subst IsWritable (sym (rig_is rig at.tale at.stands.rig_is)) (bounds (few small));
+      writable = subst IsWritable (sym (rig_is rig at.replay at.stands.rig_is)) (bounds (few small));
       allowed = tt;
     };
     count_is = rw none_later (sym at.many);
@@ -105,5 +105,5 @@ module _ (cut : CutAt) (before now : Streams) (rig : RigState) (p : Progress)
           held = rw same (subst P unwritten part);
         });
         cost = spent;
-        box_cost = spent_within before.steps steps at.tale.cost at.tale.box_cost _ spent at.small;
+        box_cost = spent_within before.steps steps at.replay.cost at.replay.box_cost _ spent at.small;
       }

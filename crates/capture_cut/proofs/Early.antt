@@ -7,18 +7,18 @@ use Rattle.gpu_capture.specs.declared.event.Event.{Event}
 use Rattle.gpu_capture.specs.declared.event.Stop.{Stop}
 use Rattle.gpu_capture.specs.declared.progress.Progress.{Progress}
 use Rattle.gpu_taps.specs.Tally.{Reading}
-use Rattle.event_play.specs.Replay.{Tale, next_number}
+use Rattle.event_play.specs.Replay.{Replay, next_number}
 use Rattle.event_play.specs.RigState.{RigState}
 use Rattle.event_play.specs.Step.{event_step}
 use Rattle.event_play.specs.Streams.{Outlets, Streams, streams, without_sink}
 use Rattle.event_play.specs.declared.fault.EventFault.{EventFault}
 use Rattle.capture_cut.specs.Came.{EndsAnswer, EndsEarly, IsIdle, HasRead}
-use Rattle.capture_cut.specs.Cut.{Way, EndsCut, IsEarly, SaysEnding, StopsBehind, cut_at}
+use Rattle.capture_cut.specs.Cut.{Way, EndsCut, IsEarly, SaysEnding, StopsAfter, cut_at}
 use Rattle.capture_cut.specs.declared.ending.CutEnding.{CutEnding}
 use Rattle.capture_cut.specs.declared.ending.CutEnding.TheVariants.{Done, PastEnd, Stopped, Faulted, TooLong}
 use Rattle.capture_cut.specs.declared.ending.CutEnding.TheVariants.{WriteFailed}
 use Rattle.capture_cut.proofs.Playing.{Awaits}
-use Rattle.capture_cut.proofs.Reading.{read_on, reads_to, stops_bytes, stops_behind}
+use Rattle.capture_cut.proofs.Reading.{read_on, reads_to, stops_bytes, stops_after}
 
 not_whole : (k n : ℕ) → k < n → (k == n) ≡ false
 not_whole k n lt = grind arith
@@ -26,29 +26,29 @@ not_whole k n lt = grind arith
 spent_within : (before now a b more : ℕ) → now ≤ before + a → a ≤ b → now ≤ before + b + more
 spent_within before now a b more within small = omega arith
 
-module _ (k n : ℕ) (start : Tale) (version : ℕ) (before now : Streams) (was rig : RigState) (new : Progress)
+module _ (k n : ℕ) (start : Replay) (version : ℕ) (before now : Streams) (was rig : RigState) (new : Progress)
     (heard : List Reading) (steps : ℕ) (lt : k < n) (few : n < 2 ^ 32) where
   abbrev mid : Outlets
   mid = without_sink now.heard now.steps
 
-  abbrev behind : Outlets
-  behind = without_sink heard steps
+  abbrev following : Outlets
+  following = without_sink heard steps
 
   abbrev after : Streams
   after = streams now.left now.held heard steps
 
   abbrev way : (answer : Result Event Stop) → Awaits k start version before now was new answer → List ℕ → Way
   way answer at taken =
-      record { version = version; taken = taken; played = at.events; tale = at.tale; later = [] }
+      record { version = version; taken = taken; played = at.events; replay = at.replay; later = [] }
 
   -- What the reader returned was not played: the rig and the taps are unchanged.
   ends : (answer : Result Event Stop) (at : Awaits k start version before now was new answer) (taken : List ℕ)
-      (ending : CutEnding) → IsIdle mid behind was rig → before.left ≡ prepended taken now.left
+      (ending : CutEnding) → IsIdle mid following was rig → before.left ≡ prepended taken now.left
       → SaysEnding n (way answer at taken) before after ending → EndsCut (cut_at n start) before after rig ending
   ends answer at taken ending idle bytes says =
       let same_heard : heard ≡ now.heard = ap (λ (o : Outlets). o.heard) idle.unchanged in
       let same_steps : steps ≤ now.steps = omega (arith, ap (λ (o : Outlets). o.steps) idle.unchanged) in
-      let within : steps ≤ before.steps + at.tale.cost = omega (arith, at.cost, same_steps) in
+      let within : steps ≤ before.steps + at.replay.cost = omega (arith, at.cost, same_steps) in
       record {
         way = way answer at taken;
         bytes = bytes;
@@ -57,12 +57,12 @@ module _ (k n : ℕ) (start : Tale) (version : ℕ) (before now : Streams) (was 
         stands = rw (idle.rig_is, same_heard) at.stands;
         says = says;
         cost = omega (arith, within);
-        box_cost = spent_within before.steps steps at.tale.cost at.tale.box_cost _ within at.small;
+        box_cost = spent_within before.steps steps at.replay.cost at.replay.box_cost _ within at.small;
       }
 
   -- the event after those that were played, of which there are fewer than n
   is_early : (answer : Result Event Stop) (at : Awaits k start version before now was new answer) (taken : List ℕ)
-      (number : ℕ) → now.held ≡ before.held → number ≡ next_number at.tale.played
+      (number : ℕ) → now.held ≡ before.held → number ≡ next_number at.replay.played
       → IsEarly n (way answer at taken) number before after
   is_early answer at taken number unwritten is = record {
     number_is = omega (arith, is, at.plays.counts, at.many, lt, few);
@@ -71,8 +71,8 @@ module _ (k n : ℕ) (start : Tale) (version : ℕ) (before now : Streams) (was 
   }
 
   fault_ends : (event : Event) (at : Awaits k start version before now was new (Ok event)) (number : ℕ)
-      (fault : EventFault) → now.held ≡ before.held → number ≡ next_number at.tale.played
-      → event_step at.tale.state (next_number at.tale.played) event ≡ Err fault → IsIdle mid behind was rig
+      (fault : EventFault) → now.held ≡ before.held → number ≡ next_number at.replay.played
+      → event_step at.replay.state (next_number at.replay.played) event ≡ Err fault → IsIdle mid following was rig
       → EndsCut (cut_at n start) before after rig (Faulted number fault)
   fault_ends event at number fault unwritten is faults idle =
       let has = read_on before.left at.left now.left at.old new at.taken at.events event at.reads at.answers.0 in
@@ -89,18 +89,18 @@ module _ (k n : ℕ) (start : Tale) (version : ℕ) (before now : Streams) (was 
 
   -- the reader stopped after the events that were played
   stops_way : (stop : Stop) (at : Awaits k start version before now was new (Err stop))
-      → StopsBehind (way (Err stop) at (at.taken ++ at.answers.taken)) stop now.left
+      → StopsAfter (way (Err stop) at (at.taken ++ at.answers.taken)) stop now.left
   stops_way stop at =
       let P : List Event → Type 0 = λ events. HasRead before.left at.left at.old at.taken events in
-      stops_behind before.left at.left now.left at.old new at.taken stop
+      stops_after before.left at.left now.left at.old new at.taken stop
       (way (Err stop) at (at.taken ++ at.answers.taken)) (subst P (sym (append-nil at.events)) at.reads) at.answers
       at.same refl
 
   stop_ends : (stop : Stop) (at : Awaits k start version before now was new (Err stop)) (ending : CutEnding)
-      → now.held ≡ before.held → EndsEarly (next_number at.tale.played) stop ending → IsIdle mid behind was rig
+      → now.held ≡ before.held → EndsEarly (next_number at.replay.played) stop ending → IsIdle mid following was rig
       → EndsCut (cut_at n start) before after rig ending
   stop_ends stop at (PastEnd number) unwritten end idle =
-      let P : Stop → Type 0 = λ s. StopsBehind (way (Err stop) at (at.taken ++ at.answers.taken)) s now.left in
+      let P : Stop → Type 0 = λ s. StopsAfter (way (Err stop) at (at.taken ++ at.answers.taken)) s now.left in
       ends (Err stop) at (at.taken ++ at.answers.taken) (PastEnd number) idle
       (stops_bytes before.left at.left now.left at.old new at.taken at.events stop at.reads at.answers) (
         is_early (Err stop) at (at.taken ++ at.answers.taken) number unwritten end.0,
@@ -125,7 +125,7 @@ module _ (k n : ℕ) (start : Tale) (version : ℕ) (before now : Streams) (was 
   stop_ends stop at (WriteFailed number) unwritten end idle = absurd end
 
   pub early_ends : (answer : Result Event Stop) (at : Awaits k start version before now was new answer)
-      (ending : CutEnding) → now.held ≡ before.held → EndsAnswer at.tale answer ending → IsIdle mid behind was rig
+      (ending : CutEnding) → now.held ≡ before.held → EndsAnswer at.replay answer ending → IsIdle mid following was rig
       → EndsCut (cut_at n start) before after rig ending
   early_ends (Ok event) at (Faulted number fault) unwritten end idle =
       fault_ends event at number fault unwritten end.0 end.1 idle

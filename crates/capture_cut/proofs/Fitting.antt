@@ -116,7 +116,7 @@ registers_fit r widths held tall =
     let hrange = widths.hrange in
     let vrange = widths.vrange in
     let mode = widths.mode in
-    let behind : AreWords (r.direction ∷ r.start ∷ r.hrange ∷ r.vrange ∷ r.mode ∷ r.held ∷ []) = (
+    let after : AreWords (r.direction ∷ r.start ∷ r.hrange ∷ r.vrange ∷ r.mode ∷ r.held ∷ []) = (
       omega (arith, direction),
       (
         omega (arith, start, tall),
@@ -144,7 +144,7 @@ registers_fit r widths held tall =
             omega (arith, bottom_right, tall),
             (
               omega (arith, offset),
-              (omega (arith, mask), (omega (arith, irq, off), behind)),
+              (omega (arith, mask), (omega (arith, irq, off), after)),
             ),
           ),
         ),
@@ -189,14 +189,14 @@ store_fits height (Some job) tall is = (omega arith, job_fits height job tall is
 run_fits : (r : Run) → IsRun r → AreWords (run_words r)
 run_fits run.Idle is = (omega arith, tt)
 run_fits (run.Words at left block back to_ram) is =
-    let place = is.0 in
+    let offset = is.0 in
     let most = is.1.1 in
     let widest = is.2.1 in
     let backward = bit_few back in
     let into = bit_few to_ram in (
       omega arith,
       (
-        omega (arith, place),
+        omega (arith, offset),
         (
           omega (arith, most),
           (

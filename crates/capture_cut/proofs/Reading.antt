@@ -3,7 +3,7 @@ use Rattle.std.proofs.Common.{◌≡◌, ◌≤◌, ◌++◌, ℕ, List, [], ◌
 use Rattle.std.proofs.Common.{false, true, refl, sym, ◌∙◌}
 use Rattle.dev_io.specs.Device.{prepended}
 use Rattle.dev_io.proofs.Parts.{prepended-nil, taken_on}
-use Rattle.gpu_capture.specs.Reader.{Takes, StopsAt, IsStart, IsReadFault, capture_from, standing}
+use Rattle.gpu_capture.specs.Reader.{Takes, StopsAt, IsStart, IsReadFault, capture_from, reader_input}
 use Rattle.gpu_capture.specs.declared.event.Event.{Event}
 use Rattle.gpu_capture.specs.declared.event.Stop.{Stop}
 use Rattle.gpu_capture.specs.declared.progress.Progress.{Progress}
@@ -12,7 +12,7 @@ use Rattle.gpu_capture.proofs.Needed.{Answers}
 use Rattle.gpu_capture.proofs.Needed.{none_needed, needed_on, needed_end, says_on, stop_says, takes_version}
 use Rattle.gpu_capture.proofs.Needed.{stops_version}
 use Rattle.capture_cut.specs.Came.{HasRead, IsReadFailure}
-use Rattle.capture_cut.specs.Cut.{Way, events_of, ReadsTo, said_of, StopsBehind}
+use Rattle.capture_cut.specs.Cut.{Way, events_of, ReadsTo, said_of, StopsAfter}
 
 pub read_none : (left : Option (List ℕ)) (p : Progress) → IsStart p → HasRead left left p [] []
 read_none left p is = record {
@@ -24,7 +24,7 @@ read_none left p is = record {
 -- one more event
 pub read_on : (before mid now : Option (List ℕ)) (old new : Progress) (xs : List ℕ) (events : List Event)
     (given : Event) → HasRead before mid old xs events
-    → (takes : Takes (standing old mid) (standing new now) (given ∷ []))
+    → (takes : Takes (reader_input old mid) (reader_input new now) (given ∷ []))
     → HasRead before now new (xs ++ takes.taken) (events ++ given ∷ [])
 read_on before mid now old new xs events given was takes = record {
   bytes = taken_on before mid now xs takes.taken was.bytes takes.bytes;
@@ -42,15 +42,16 @@ reads_to before now p events way has known same = record {
 
 -- the reader stopped
 pub stops_bytes : (before mid now : Option (List ℕ)) (old new : Progress) (xs : List ℕ) (events : List Event)
-    (stop : Stop) → HasRead before mid old xs events → (stops : StopsAt (standing old mid) (standing new now) stop)
+    (stop : Stop) → HasRead before mid old xs events
+    → (stops : StopsAt (reader_input old mid) (reader_input new now) stop)
     → before ≡ prepended (xs ++ stops.taken) now
 stops_bytes before mid now old new xs events stop was stops =
     taken_on before mid now xs stops.taken was.bytes stops.bytes
 
-pub stops_behind : (before mid now : Option (List ℕ)) (old new : Progress) (xs : List ℕ) (stop : Stop) (way : Way)
-    → HasRead before mid old xs (events_of way) → (stops : StopsAt (standing old mid) (standing new now) stop)
-    → way.version ≡ new.version → way.taken ≡ xs ++ stops.taken → StopsBehind way stop now
-stops_behind before mid now old new xs stop way was stops same taken = record {
+pub stops_after : (before mid now : Option (List ℕ)) (old new : Progress) (xs : List ℕ) (stop : Stop) (way : Way)
+    → HasRead before mid old xs (events_of way) → (stops : StopsAt (reader_input old mid) (reader_input new now) stop)
+    → way.version ≡ new.version → way.taken ≡ xs ++ stops.taken → StopsAfter way stop now
+stops_after before mid now old new xs stop way was stops same taken = record {
   says = stop_says old (said_of way) way.taken xs stops.taken now stop taken was.says (rw same stops.says);
   needed = rw taken (needed_end old (events_of way) xs stops.taken was.says was.needed stops.needed);
 }

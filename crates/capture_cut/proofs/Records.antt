@@ -3,27 +3,27 @@ use Rattle.std.proofs.Common.{◌≡◌, ◌≤◌, ◌<◌, inl, inr, ◌+◌, 
 use Rattle.std.proofs.Common.{length, length-append, refl, ap, sym, subst, ◌∙◌, append_assoc, append-nil, arith}
 use Rattle.dev_io.specs.Device.{appended, prepended, AppendsPart}
 use Rattle.gathered_out.specs.Puts.{BreaksWriting}
-use Rattle.gathered_out.proofs.Gathers.{BreaksDue, Gathers, breaks_put, gathers_more, gathers_off, gathers_on}
-use Rattle.gathered_out.proofs.Gathers.{gathers_written}
+use Rattle.gathered_out.proofs.Buffers.{BreaksDue, Buffers, breaks_put, buffers_more, buffers_off, buffers_on}
+use Rattle.gathered_out.proofs.Buffers.{buffers_written}
 use Rattle.gpu_capture.specs.Capture.{capture, limit}
-use Rattle.gpu_capture.specs.Reader.{AreNeeded as ReaderNeeds, Takes, StopsAt, capture_from, standing}
+use Rattle.gpu_capture.specs.Reader.{AreNeeded as ReaderNeeds, Takes, StopsAt, capture_from, reader_input}
 use Rattle.gpu_capture.proofs.Versions.{version_from}
 use Rattle.gpu_capture.specs.Written.{spelled, spelled_end, tag_of, Allows}
 use Rattle.gpu_capture.specs.declared.event.Event.{Event}
 use Rattle.gpu_capture.specs.declared.event.Stop.{Stop}
 use Rattle.gpu_capture.specs.declared.progress.Progress.{Progress}
 use Rattle.gpu_capture.proofs.Written.{word_length}
-use Rattle.event_play.specs.Replay.{Tale}
+use Rattle.event_play.specs.Replay.{Replay}
 use Rattle.event_play.specs.RigState.{RigState}
 use Rattle.event_play.specs.Streams.{Streams, streams}
 use Rattle.gpu_capture.specs.Written.{spell}
 use Rattle.gpu_capture.specs.Reading.{SaysFirst}
-use Rattle.event_play.specs.Pausing.{most_behind}
+use Rattle.event_play.specs.Pausing.{most_after}
 use Rattle.gpu_capture.proofs.Spelled.{allows_append}
-use Rattle.event_play.proofs.Behind.{few_behind}
+use Rattle.event_play.proofs.After.{few_after}
 use Rattle.gpu_capture.proofs.Spelled.{spell-append, wrote_on}
 use Rattle.capture_cut.specs.Came.{EndsAt, EndsReading, EndsRecord, EndsTooLong, HasRead, PutsRecord, writing}
-use Rattle.capture_cut.specs.Cut.{CutAt, Way, EndsCut, IsLast, ReadsTo, SaysEnding, StopsBehind, events_of}
+use Rattle.capture_cut.specs.Cut.{CutAt, Way, EndsCut, IsLast, ReadsTo, SaysEnding, StopsAfter, events_of}
 use Rattle.capture_cut.specs.File.{snapshot, begun, cut_file}
 use Rattle.capture_cut.specs.declared.ending.CutEnding.{CutEnding}
 use Rattle.capture_cut.specs.declared.ending.CutEnding.TheVariants.{Done, PastEnd, Stopped, Faulted, TooLong}
@@ -31,25 +31,25 @@ use Rattle.capture_cut.specs.declared.ending.CutEnding.TheVariants.{WriteFailed}
 use Rattle.capture_cut.specs.declared.file.Draft.{Draft}
 use Rattle.capture_cut.proofs.Coming.{Comes, WasDue, due_here, due_more}
 use Rattle.capture_cut.proofs.Cutting.{spent_within}
-use Rattle.capture_cut.proofs.Reading.{read_on, reads_to, stops_behind, stops_bytes, version_on}
+use Rattle.capture_cut.proofs.Reading.{read_on, reads_to, stops_after, stops_bytes, version_on}
 
 -- ---- bytes
 
 -- one more record
-begun_on : (t : Tale) (later : List Event) (event : Event)
+begun_on : (t : Replay) (later : List Event) (event : Event)
     → begun t (later ++ event ∷ []) ≡ begun t later ++ spelled event
 begun_on t later event =
     ap (λ bytes. snapshot t ++ bytes) (spell-append later (event ∷ [])
     ∙ ap (λ bytes. spell later ++ bytes) (append-nil (spelled event)))
     ∙ sym (append_assoc (snapshot t) (spell later) (spelled event))
 
-file_length : (t : Tale) (later : List Event) → length (cut_file t later) ≡ length (begun t later) + 4
+file_length : (t : Replay) (later : List Event) → length (cut_file t later) ≡ length (begun t later) + 4
 file_length t later =
     let a = length-append (begun t later) spelled_end in
     let b = word_length (tag_of 0 0) in
     omega (arith, a, b)
 
-longer : (t : Tale) (later : List Event) (event : Event) (size : ℕ) → size ≡ length (begun t later)
+longer : (t : Replay) (later : List Event) (event : Event) (size : ℕ) → size ≡ length (begun t later)
     → length (cut_file t (later ++ event ∷ [])) ≡ size + length (spelled event) + 4
 longer t later event size is =
     let a = file_length t (later ++ event ∷ []) in
@@ -80,16 +80,16 @@ module _ (cut : CutAt) (before now : Streams) (rig : RigState) (old : Progress) 
     version = far.version;
     taken = taken;
     played = far.played;
-    tale = far.tale;
+    replay = far.replay;
     later = later;
   }
 
   abbrev all : List ℕ
-  all = begun far.tale far.later
+  all = begun far.replay far.later
 
   -- what is known of a buffered record, with these bytes read and these later events
   abbrev due : List ℕ → List Event → (number : ℕ) → (was is : List ℕ) → Type 0
-  due taken later = WasDue far.tale far.played later at.flushed taken
+  due taken later = WasDue far.replay far.played later at.flushed taken
 
   ends : (taken : List ℕ) (later : List Event) (ending : CutEnding) → before.left ≡ prepended taken left
       → SaysEnding cut.n (way taken later) before after ending → EndsCut cut before after rig ending
@@ -101,13 +101,13 @@ module _ (cut : CutAt) (before now : Streams) (rig : RigState) (old : Progress) 
     stands = at.on.stands;
     says = says;
     cost = at.on.cost;
-    box_cost = spent_within before.steps now.steps far.tale.cost far.tale.box_cost _ at.on.cost at.on.small;
+    box_cost = spent_within before.steps now.steps far.replay.cost far.replay.box_cost _ at.on.cost at.on.small;
   }
 
   -- a flush that failed
   lacks : (taken : List ℕ) (later : List Event) (number : ℕ) → before.left ≡ prepended taken left
       → SaysFirst capture (way taken later).version taken (events_of (way taken later))
-      → length taken ≤ length at.flushed + most_behind
+      → length taken ≤ length at.flushed + most_after
       → BreaksDue (due taken later) before.held held number
       → EndsCut cut before after rig (WriteFailed number)
   lacks taken later number bytes says few breaks =
@@ -136,26 +136,26 @@ module _ (cut : CutAt) (before now : Streams) (rig : RigState) (old : Progress) 
 
   -- at a pause: no further byte was read
   pub pause_lacks : (lacking : ℕ) → before.left ≡ prepended far.taken left
-      → BreaksWriting now.held held draft.gathered lacking → EndsCut cut before after rig (WriteFailed lacking)
+      → BreaksWriting now.held held draft.buffered lacking → EndsCut cut before after rig (WriteFailed lacking)
   pause_lacks lacking bytes breaks =
       let here = way far.taken far.later in
       lacks far.taken far.later lacking bytes
       (reads_to before.left now.left old (events_of far) here at.on.reads at.on.known at.on.same).says
       at.close
-      (gathers_off (due far.taken far.later) before.held all now.held held
-      draft.gathered lacking at.gathers breaks)
+      (buffers_off (due far.taken far.later) before.held all now.held held
+      draft.buffered lacking at.buffers breaks)
 
   -- ---- what the reader returns next
 
-  module _ (new : Progress) (near : old.place < since + 4096) where
+  module _ (new : Progress) (near : old.offset < since + 4096) where
     -- With these bytes, at most 4,112 were read after the last flush.
     few : (further : List ℕ) → ReaderNeeds old further
-        → length (far.taken ++ further) ≤ length at.flushed + most_behind
+        → length (far.taken ++ further) ≤ length at.flushed + most_after
     few further needed =
-        few_behind old (events_of far) far.taken further at.flushed since (inr at.on.known) at.on.reads.says at.since_is
+        few_after old (events_of far) far.taken further at.flushed since (inr at.on.known) at.on.reads.says at.since_is
         near needed
 
-    module _ (event : Event) (takes : Takes (standing old now.left) (standing new left) (event ∷ []))
+    module _ (event : Event) (takes : Takes (reader_input old now.left) (reader_input new left) (event ∷ []))
         (known : 1 ≤ new.version) where
       abbrev taken : List ℕ
       taken = far.taken ++ takes.taken
@@ -184,24 +184,24 @@ module _ (cut : CutAt) (before now : Streams) (rig : RigState) (old : Progress) 
       more_due : (number : ℕ) (was is : List ℕ) → due far.taken far.later number was is
           → due taken later number was is
       more_due =
-          due_more far.tale far.played far.later (event ∷ []) later at.flushed far.taken takes.taken refl
+          due_more far.replay far.played far.later (event ∷ []) later at.flushed far.taken takes.taken refl
 
-      here : (number : ℕ) → number ≡ count + 1 → length (cut_file far.tale later) ≤ limit
+      here : (number : ℕ) → number ≡ count + 1 → length (cut_file far.replay later) ≤ limit
           → due taken later number all (spelled event)
       here number is fits =
           let count_is = at.count_is in
-          due_here far.tale far.played far.later event at.flushed at.behind far.taken takes.taken number
+          due_here far.replay far.played far.later event at.flushed at.after far.taken takes.taken number
           (is ∙ ap (λ k. k + 1) count_is) fits at.taken_is has_read.needed
 
       pub came_on : (number : ℕ) (is : Draft) → number ≡ count + 1
           → PutsRecord number event (writing draft now.held) (writing is held) → Allows 2 event
           → Comes cut before after rig new is since number
       came_on number is number_is puts allows =
-          let size = longer far.tale far.later event draft.size at.size_is in
+          let size = longer far.replay far.later event draft.size at.size_is in
           let adds = puts.size_is in
           let room = puts.fits in
-          let fits : length (cut_file far.tale later) ≤ limit = omega (arith, size, adds, room) in
-          let Q : List ℕ → Type 0 = λ bs. Gathers (due taken later) before.held bs held is.gathered in
+          let fits : length (cut_file far.replay later) ≤ limit = omega (arith, size, adds, room) in
+          let Q : List ℕ → Type 0 = λ bs. Buffers (due taken later) before.held bs held is.buffered in
           record {
             on = record {
               way = way taken later;
@@ -217,41 +217,41 @@ module _ (cut : CutAt) (before now : Streams) (rig : RigState) (old : Progress) 
               allowed = allows_append 2 far.later (event ∷ []) at.on.allowed (allows, tt);
             };
             count_is = number_is ∙ count_on;
-            size_is = let a = ap length (begun_on far.tale far.later event) in
-                let b = length-append (begun far.tale far.later) (spelled event) in
+            size_is = let a = ap length (begun_on far.replay far.later event) in
+                let b = length-append (begun far.replay far.later) (spelled event) in
                 omega (arith, a, b, at.size_is, adds);
             fits = room;
             flushed = at.flushed;
             close = few takes.taken takes.needed;
-            behind = at.behind ++ takes.taken;
-            taken_is = ap (λ bs. bs ++ takes.taken) at.taken_is ∙ append_assoc at.flushed at.behind takes.taken;
+            after = at.after ++ takes.taken;
+            taken_is = ap (λ bs. bs ++ takes.taken) at.taken_is ∙ append_assoc at.flushed at.after takes.taken;
             since_is = at.since_is;
-            gathers = subst Q (sym (begun_on far.tale far.later event))
-                (gathers_on (due far.taken far.later) (due taken later) before.held all now.held draft.gathered
-                at.gathers more_due number (spelled event) (here number number_is fits) held is.gathered puts.put);
+            buffers = subst Q (sym (begun_on far.replay far.later event))
+                (buffers_on (due far.taken far.later) (due taken later) before.held all now.held draft.buffered
+                at.buffers more_due number (spelled event) (here number number_is fits) held is.buffered puts.put);
           }
 
       last : (number : ℕ) → number ≡ count + 1 → IsLast cut.n (way taken later) number far.later event
       last number is = record { all = at.on.all; number_is = is ∙ count_on; are = refl; reads = reads }
 
       long_ends : (number : ℕ) (ending : CutEnding) → number ≡ count + 1
-          → limit < draft.size + length (spelled event) + 4 → EndsTooLong number draft.gathered now.held held ending
+          → limit < draft.size + length (spelled event) + 4 → EndsTooLong number draft.buffered now.held held ending
           → EndsCut cut before after rig ending
       long_ends number (TooLong told) is long end =
           ends taken later (TooLong told) has_read.bytes (record {
             earlier = far.later;
             event = event;
             last = last told (end.0 ∙ is);
-            held = gathers_written (due far.taken far.later) before.held all now.held held draft.gathered
-                at.gathers end.1;
-            fits = let a = file_length far.tale far.later in omega (arith, a, at.size_is, at.fits);
-            long = rw (longer far.tale far.later event draft.size at.size_is) long;
+            held = buffers_written (due far.taken far.later) before.held all now.held held draft.buffered
+                at.buffers end.1;
+            fits = let a = file_length far.replay far.later in omega (arith, a, at.size_is, at.fits);
+            long = rw (longer far.replay far.later event draft.size at.size_is) long;
           })
       long_ends number (WriteFailed told) is long end =
           lacks taken later told has_read.bytes reads.says (few takes.taken takes.needed)
-          (gathers_off (due taken later) before.held all now.held held draft.gathered told
-          (gathers_more (due far.taken far.later) (due taken later) before.held all now.held draft.gathered
-          more_due at.gathers) end)
+          (buffers_off (due taken later) before.held all now.held held draft.buffered told
+          (buffers_more (due far.taken far.later) (due taken later) before.held all now.held draft.buffered
+          more_due at.buffers) end)
       long_ends number Done is long end = absurd end
       long_ends number (PastEnd told) is long end = absurd end
       long_ends number (Stopped told stop) is long end = absurd end
@@ -261,16 +261,16 @@ module _ (cut : CutAt) (before now : Streams) (rig : RigState) (old : Progress) 
           → EndsRecord number event (writing draft now.held) held ending → EndsCut cut before after rig ending
       record_ends number ending is (inl long) = long_ends number ending is long.0 long.1
       record_ends number ending is (inr breaks) =
-          let size = longer far.tale far.later event draft.size at.size_is in
+          let size = longer far.replay far.later event draft.size at.size_is in
           let room = breaks.0 in
-          let fits : length (cut_file far.tale later) ≤ limit = omega (arith, size, room) in
+          let fits : length (cut_file far.replay later) ≤ limit = omega (arith, size, room) in
           rw breaks.2 (lacks taken later breaks.1 has_read.bytes reads.says (few takes.taken takes.needed)
-          (breaks_put (due far.taken far.later) (due taken later) before.held all now.held draft.gathered
-          at.gathers more_due number (spelled event) (here number is fits) held breaks.1 breaks.3))
+          (breaks_put (due far.taken far.later) (due taken later) before.held all now.held draft.buffered
+          at.buffers more_due number (spelled event) (here number is fits) held breaks.1 breaks.3))
 
     -- ---- the reader stops
 
-    module _ (stop : Stop) (stops : StopsAt (standing old now.left) (standing new left) stop) where
+    module _ (stop : Stop) (stops : StopsAt (reader_input old now.left) (reader_input new left) stop) where
       abbrev bytes_taken : List ℕ
       bytes_taken = far.taken ++ stops.taken
 
@@ -280,8 +280,8 @@ module _ (cut : CutAt) (before now : Streams) (rig : RigState) (old : Progress) 
       version_is : far.version ≡ new.version
       version_is = at.on.same ∙ version_on old new now.left left (Err stop) stops at.on.known
 
-      behind : StopsBehind (way bytes_taken far.later) stop left
-      behind = stops_behind before.left now.left left old new far.taken stop (way bytes_taken far.later) at.on.reads
+      stopping : StopsAfter (way bytes_taken far.later) stop left
+      stopping = stops_after before.left now.left left old new far.taken stop (way bytes_taken far.later) at.on.reads
           stops version_is refl
 
       says_events : SaysFirst capture (way bytes_taken far.later).version bytes_taken (events_of far)
@@ -298,22 +298,22 @@ module _ (cut : CutAt) (before now : Streams) (rig : RigState) (old : Progress) 
           → mid ≡ appended before.held all
           → EndsAt number stop mid held ending → EndsCut cut before after rig ending
       stop_ends number Done mid is stood end =
-          let P : Stop → Type 0 = λ s. StopsBehind (way bytes_taken far.later) s left in
+          let P : Stop → Type 0 = λ s. StopsAfter (way bytes_taken far.later) s left in
           ends bytes_taken far.later Done bytes (record {
             all = at.on.all;
-            stops = subst P end.0 behind;
+            stops = subst P end.0 stopping;
             held = wrote_on before.held mid held all spelled_end stood end.1;
             writable = at.on.writable;
             allowed = at.on.allowed;
-            fits = let a = file_length far.tale far.later in omega (arith, a, at.size_is, at.fits);
+            fits = let a = file_length far.replay far.later in omega (arith, a, at.size_is, at.fits);
           })
       stop_ends number (WriteFailed told) mid is stood end =
-          let P : Stop → Type 0 = λ s. StopsBehind (way bytes_taken far.later) s left in
+          let P : Stop → Type 0 = λ s. StopsAfter (way bytes_taken far.later) s left in
           let Q : Option (List ℕ) → Type 0 = λ base. AppendsPart base held spelled_end in
           ends bytes_taken far.later (WriteFailed told) bytes (inr (inr (record {
             all = at.on.all;
             number_is = stopped_number number told end.1 is;
-            stops = subst P end.0 behind;
+            stops = subst P end.0 stopping;
             held = subst Q stood end.2;
           })))
       stop_ends number (Stopped told given) mid is stood end =
@@ -322,7 +322,7 @@ module _ (cut : CutAt) (before now : Streams) (rig : RigState) (old : Progress) 
           subst P (sym end.1)
           (ends bytes_taken far.later (Stopped told stop) bytes (
             record { number_is = stopped_number number told end.0 is; held = rw whole (end.3 ∙ stood) },
-            behind,
+            stopping,
             end.2,
           ))
       stop_ends number (PastEnd told) mid is stood end = absurd end
@@ -333,13 +333,13 @@ module _ (cut : CutAt) (before now : Streams) (rig : RigState) (old : Progress) 
           → EndsReading number stop (writing draft now.held) held ending → EndsCut cut before after rig ending
       reading_ends number ending is (inl end) =
           stop_ends number ending end.0 is
-          (gathers_written (due far.taken far.later) before.held all now.held
-          end.0 draft.gathered at.gathers end.1) end.2
+          (buffers_written (due far.taken far.later) before.held all now.held
+          end.0 draft.buffered at.buffers end.1) end.2
       reading_ends number ending is (inr breaks) =
           let was = due far.taken far.later in
           let more = due bytes_taken far.later in
           rw breaks.1 (lacks bytes_taken far.later breaks.0 bytes says_events (few stops.taken stops.needed)
-          (gathers_off more before.held all now.held held draft.gathered breaks.0
-          (gathers_more was more before.held all now.held draft.gathered
-          (due_more far.tale far.played far.later [] far.later at.flushed far.taken stops.taken
-          (sym (append-nil far.later))) at.gathers) breaks.2))
+          (buffers_off more before.held all now.held held draft.buffered breaks.0
+          (buffers_more was more before.held all now.held draft.buffered
+          (due_more far.replay far.played far.later [] far.later at.flushed far.taken stops.taken
+          (sym (append-nil far.later))) at.buffers) breaks.2))

@@ -44,7 +44,7 @@ words_split words k n m is =
 
 pub ram_word : (ram : List ℕ) (k : ℕ) → k < memory_words → word_at ram (4 * k) ≡ get_or ram k 0
 ram_word ram k lt =
-    let e : 4 * k / 4 % 2 ^ 19 ≡ k = omega (arith, lt) in ap (λ place. get_or ram place 0) e
+    let e : 4 * k / 4 % 2 ^ 19 ≡ k = omega (arith, lt) in ap (λ index. get_or ram index 0) e
 
 -- one more word
 pub ram_on : (ram words : List ℕ) (first i word : ℕ) → length ram ≡ memory_words → first + 512 ≤ memory_words → i < 512

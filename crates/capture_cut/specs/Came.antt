@@ -12,14 +12,14 @@ use Rattle.gpu_capture.specs.declared.event.Stop.TheVariants.{End}
 use Rattle.gpu_capture.specs.declared.progress.Progress.{Progress}
 use Rattle.picture_out.specs.Dump.{dump_cost}
 use Rattle.event_play.specs.Ends.{IsNotEnd}
-use Rattle.event_play.specs.Replay.{Tale, raised, next_number}
+use Rattle.event_play.specs.Replay.{Replay, raised, next_number}
 use Rattle.event_play.specs.RigState.{RigState}
-use Rattle.event_play.specs.Setting.{setting}
+use Rattle.event_play.specs.PlayState.{play_state}
 use Rattle.event_play.specs.Step.{event_step}
 use Rattle.event_play.specs.Stepping.{HasStepped, numbered}
 use Rattle.event_play.specs.Streams.{Outlets, Streams}
 use Rattle.gpu_capture.specs.Reading.{AreNeeded}
-use Rattle.capture_cut.specs.Cut.{CutAt, Way, events_of, Plays, StandsBehind}
+use Rattle.capture_cut.specs.Cut.{CutAt, Way, events_of, Plays, StandsAfter}
 use Rattle.capture_cut.specs.File.{begun, rig_of, IsWritable}
 use Rattle.capture_cut.specs.declared.ending.CutEnding.{CutEnding}
 use Rattle.capture_cut.specs.declared.ending.CutEnding.TheVariants.{Done, PastEnd, Stopped, Faulted, TooLong}
@@ -29,12 +29,12 @@ use Rattle.capture_cut.specs.declared.file.Draft.{Draft}
 -- ---- one event that is played
 
 -- the reader returned an event, and it was played
-pub record PlaysNext (t : Tale) (event : Event) (before now : Outlets) (rig : RigState) : Type 0 where
+pub record PlaysNext (t : Replay) (event : Event) (before now : Outlets) (rig : RigState) : Type 0 where
   pub shown : Option ℕ
-  pub step : HasStepped t.state (numbered (next_number t.played) event) shown before (setting now rig)
+  pub step : HasStepped t.state (numbered (next_number t.played) event) shown before (play_state now rig)
   pub played : rig.played ≡ next_number t.played
 
-abbrev pub PlaysAnswer : Tale → Result Event Stop → (before now : Outlets) → (rig : RigState) → Type 0
+abbrev pub PlaysAnswer : Replay → Result Event Stop → (before now : Outlets) → (rig : RigState) → Type 0
 PlaysAnswer t (Ok event) before now rig = PlaysNext t event before now rig
 PlaysAnswer t (Err stop) before now rig = ⊥
 
@@ -50,7 +50,7 @@ EndsEarly number stop (Stopped at told) = (at ≡ number) × (told ≡ stop) × 
 EndsEarly number stop ending = ⊥
 
 -- how the cut ends if the event has a fault or the reader stopped
-abbrev pub EndsAnswer : Tale → Result Event Stop → CutEnding → Type 0
+abbrev pub EndsAnswer : Replay → Result Event Stop → CutEnding → Type 0
 EndsAnswer t (Ok event) (Faulted number fault) =
     (number ≡ next_number t.played) × (event_step t.state (next_number t.played) event ≡ Err fault)
 EndsAnswer t (Ok event) ending = ⊥
@@ -78,14 +78,14 @@ pub record HasRead (before now : Option (List ℕ)) (p : Progress) (taken : List
 pub record PlaysFirst (at : CutAt) (before now : Streams) (rig : RigState) (p : Progress) : Type 0 where
   pub taken : List ℕ
   pub events : List Event
-  pub tale : Tale
+  pub replay : Replay
   pub many : length events ≡ at.n
   pub known : 1 ≤ p.version
   pub reads : HasRead before.left now.left p taken events
-  pub plays : Plays (raised at.first p.version) events tale
-  pub stands : StandsBehind tale before.heard now.heard rig
-  pub cost : now.steps ≤ before.steps + tale.cost
-  pub small : tale.cost ≤ tale.box_cost
+  pub plays : Plays (raised at.first p.version) events replay
+  pub stands : StandsAfter replay before.heard now.heard rig
+  pub cost : now.steps ≤ before.steps + replay.cost
+  pub small : replay.cost ≤ replay.box_cost
 
 -- ---- the events after them
 
@@ -109,11 +109,11 @@ pub record GoesOn (at : CutAt) (before now : Streams) (rig : RigState) (progress
   pub same : way.version ≡ progress.version
   pub known : 1 ≤ progress.version
   pub reads : HasRead before.left now.left progress way.taken (events_of way)
-  pub plays : Plays (raised at.first way.version) way.played way.tale
-  pub stands : StandsBehind way.tale before.heard now.heard rig
-  pub cost : now.steps ≤ before.steps + way.tale.cost + dump_cost way.tale.state.gpu.parts.m
-  pub small : way.tale.cost ≤ way.tale.box_cost
-  pub writable : IsWritable (rig_of way.tale)
+  pub plays : Plays (raised at.first way.version) way.played way.replay
+  pub stands : StandsAfter way.replay before.heard now.heard rig
+  pub cost : now.steps ≤ before.steps + way.replay.cost + dump_cost way.replay.state.gpu.parts.m
+  pub small : way.replay.cost ≤ way.replay.box_cost
+  pub writable : IsWritable (rig_of way.replay)
   pub allowed : AllowsAll 2 way.later
 
 -- The state after the first n events and the records of the later ones were written. An End record (4 bytes) still
@@ -121,8 +121,8 @@ pub record GoesOn (at : CutAt) (before now : Streams) (rig : RigState) (progress
 pub record Came (at : CutAt) (before now : Streams) (rig : RigState) (r : Reached) : Type 0 where
   pub on : GoesOn at before (unheld now) rig r.progress
   pub count_is : r.count ≡ length (events_of on.way)
-  pub held : now.held ≡ appended before.held (begun on.way.tale on.way.later)
-  pub size_is : r.size ≡ length (begun on.way.tale on.way.later)
+  pub held : now.held ≡ appended before.held (begun on.way.replay on.way.later)
+  pub size_is : r.size ≡ length (begun on.way.replay on.way.later)
   pub fits : r.size + 4 ≤ limit
 
 -- a draft, and the bytes that the sink holds (None if unknown)
@@ -135,24 +135,24 @@ writing draft held = record { draft = draft; held = held }
 
 -- The record of event `number` was added to the file. An End record (4 bytes) still fits.
 pub record PutsRecord (number : ℕ) (event : Event) (before now : Writing) : Type 0 where
-  pub put : IsPut (piece number (spelled event)) (holding before.held before.draft.gathered)
-      (holding now.held now.draft.gathered)
+  pub put : IsPut (piece number (spelled event)) (holding before.held before.draft.buffered)
+      (holding now.held now.draft.buffered)
   pub size_is : now.draft.size ≡ before.draft.size + length (spelled event)
   pub fits : now.draft.size + 4 ≤ limit
 
 -- The next record would make the file too long: the buffer was flushed, or the flush failed.
 abbrev pub EndsTooLong : (number : ℕ) → List Piece → (before now : Option (List ℕ)) → CutEnding → Type 0
-EndsTooLong number gathered before now (TooLong at) = (at ≡ number) × IsWritten before now gathered
-EndsTooLong number gathered before now (WriteFailed at) = BreaksWriting before now gathered at
-EndsTooLong number gathered before now ending = ⊥
+EndsTooLong number buffered before now (TooLong at) = (at ≡ number) × IsWritten before now buffered
+EndsTooLong number buffered before now (WriteFailed at) = BreaksWriting before now buffered at
+EndsTooLong number buffered before now ending = ⊥
 
 -- The record would make the file too long and was not added; or it fits, and a write failed.
 abbrev pub EndsRecord : (number : ℕ) → Event → Writing → (now : Option (List ℕ)) → CutEnding → Type 0
 EndsRecord number event before now ending =
     ((limit < before.draft.size + length (spelled event) + 4)
-    × EndsTooLong number before.draft.gathered before.held now ending)
+    × EndsTooLong number before.draft.buffered before.held now ending)
     ⊎ ((before.draft.size + length (spelled event) + 4 ≤ limit) × (lacking : ℕ) × (ending ≡ WriteFailed lacking)
-    × BreaksPut (piece number (spelled event)) (holding before.held before.draft.gathered) now lacking)
+    × BreaksPut (piece number (spelled event)) (holding before.held before.draft.buffered) now lacking)
 
 -- How a stop of the reader ends the cut if the buffer is empty. `number`: the number of the next event.
 abbrev pub EndsAt : (number : ℕ) → Stop → (before now : Option (List ℕ)) → CutEnding → Type 0
@@ -164,5 +164,5 @@ EndsAt number stop before now ending = ⊥
 -- the same after a flush of the buffer; or the flush failed
 abbrev pub EndsReading : (number : ℕ) → Stop → Writing → (now : Option (List ℕ)) → CutEnding → Type 0
 EndsReading number stop before now ending =
-    ((mid : Option (List ℕ)) × IsWritten before.held mid before.draft.gathered × EndsAt number stop mid now ending)
-    ⊎ ((lacking : ℕ) × (ending ≡ WriteFailed lacking) × BreaksWriting before.held now before.draft.gathered lacking)
+    ((mid : Option (List ℕ)) × IsWritten before.held mid before.draft.buffered × EndsAt number stop mid now ending)
+    ⊎ ((lacking : ℕ) × (ending ≡ WriteFailed lacking) × BreaksWriting before.held now before.draft.buffered lacking)

@@ -5,7 +5,7 @@ use Rattle.gpu_capture.specs.Whole.{AreWords}
 use Rattle.gpu_capture.specs.Written.{spelled_end}
 use Rattle.gpu_capture.specs.declared.event.Event.{Event}
 use Rattle.gpu_core.specs.Kept.{kept_of}
-use Rattle.event_play.specs.Replay.{Tale}
+use Rattle.event_play.specs.Replay.{Replay}
 use Rattle.event_play.specs.RigState.{RigState}
 use Rattle.snapshot_words.specs.Outline.{snap_bytes, snapshot_head, outline_words, IsOutline, AreMemories}
 use Rattle.snapshot_words.specs.declared.outline.Outline.{Outline}
@@ -33,17 +33,17 @@ pub record IsWritable (rig : RigState) : Type 0 where
   pub memories : AreMemories (outline_of rig) rig.gpu.parts.m rig.ram
 
 -- the rig after a replay
-abbrev pub rig_of : Tale → RigState
+abbrev pub rig_of : Replay → RigState
 rig_of t = record { gpu = kept_of t.state.gpu; ram = t.state.ram; running = t.state.running; played = t.played }
 
 -- the file header and the state after a replay
-abbrev pub snapshot : Tale → List ℕ
+abbrev pub snapshot : Replay → List ℕ
 snapshot t = rig_bytes (rig_of t)
 
 -- the same, then the records of later events, which are not played
-abbrev pub begun : Tale → List Event → List ℕ
+abbrev pub begun : Replay → List Event → List ℕ
 begun t later = snapshot t ++ spell later
 
 -- the same, then an End record
-abbrev pub cut_file : Tale → List Event → List ℕ
+abbrev pub cut_file : Replay → List Event → List ℕ
 cut_file t later = begun t later ++ spelled_end

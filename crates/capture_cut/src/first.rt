@@ -2,7 +2,7 @@
 ghost use Rattle.std.specs.Prelude.{◌≡◌, ◌≤◌, ℕ, List, Option, Ok, map, IfOk, IfErr, IsOk, OnErr, OnOk};
 ghost use Rattle.dev_io.specs.Device.{Rose};
 ghost use Rattle.gpu_capture.specs.Reader.{IsReadFault};
-ghost use Rattle.event_play.specs.Replay.{Tale, from_state, raised};
+ghost use Rattle.event_play.specs.Replay.{Replay, from_state, raised};
 ghost use Rattle.event_play.specs.RigState.{Stands, StandsFor};
 ghost use Rattle.event_play.specs.Step.{Machine};
 ghost use Rattle.event_play.specs.Streams.{streams, without_sink};
@@ -59,7 +59,7 @@ pub(crate) fn play_first<S: Source, T: Listener, L: Ledger>(
 
 // Changes to the tall profile if captures of `version` are played in it.
 fn raise(rig: &mut Rig, version: u8)
-    ensures { (t : Tale) → StandsFor rig.old t → StandsFor rig.new (raised t version) }
+    ensures { (t : Replay) → StandsFor rig.old t → StandsFor rig.new (raised t version) }
 {
     if version == TALL_VERSION {
         rig.set_tall();
@@ -74,10 +74,10 @@ fn play_answer<T: Listener, L: Ledger>(
     taps: &mut Vec<T>,
     steps: &mut Steps<L>,
 ) -> Result<(), CutEnding>
-    ensures ok { (t : Tale) → StandsFor rig.old t → OnOk result (PlaysAnswer t answer
+    ensures ok { (t : Replay) → StandsFor rig.old t → OnOk result (PlaysAnswer t answer
         (without_sink (map T.heard taps.old.items) steps.old)
         (without_sink (map T.heard taps.new.items) steps.new) rig.new) }
-    ensures ends { (t : Tale) → StandsFor rig.old t → IfErr result (EndsAnswer t answer) }
+    ensures ends { (t : Replay) → StandsFor rig.old t → IfErr result (EndsAnswer t answer) }
     ensures idle { OnErr result (IsIdle (without_sink (map T.heard taps.old.items) steps.old)
         (without_sink (map T.heard taps.new.items) steps.new) rig.old rig.new) }
     ensures answered { OnOk result (IsOk answer) }

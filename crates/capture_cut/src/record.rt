@@ -6,7 +6,7 @@ ghost use Rattle.gpu_capture.specs.Record.{IsEvent};
 ghost use Rattle.gpu_capture.specs.Written.{spelled, Allows};
 
 use dev_io::Sink;
-use gathered_out::Gathered;
+use gathered_out::OutputBuffer;
 use gpu_capture::{Event, record_bytes};
 
 /// Proves that version 2 has a record for this event and that its values are words. Does nothing.
@@ -65,13 +65,13 @@ pub(crate) fn record_size(event: &Event) -> u32
 /// the number of the first event whose record is incomplete.
 pub(crate) fn put_bytes<K: Sink>(
     number: u64,
-    gathered: &mut Gathered,
+    buffered: &mut OutputBuffer,
     out: &mut K,
     event: &Event,
 ) -> Result<(), u64>
     requires { IsEvent event.now }
     ensures { Puts (piece number (spelled event.now))
-        (sink_state K.held K.faults out.old gathered.old) (sink_state K.held K.faults out.new gathered.new) result }
+        (sink_state K.held K.faults out.old buffered.old) (sink_state K.held K.faults out.new buffered.new) result }
 {
-    gathered.put(number, record_bytes(event).as_slice(), out)
+    buffered.put(number, record_bytes(event).as_slice(), out)
 }

@@ -16,7 +16,7 @@ use crate::file::Draft;
 use crate::record::{allowed, put_bytes, record_size};
 use dev_io::{Sink, Source};
 use event_play::write_at_pause;
-use gathered_out::Gathered;
+use gathered_out::OutputBuffer;
 use gpu_capture::{Event, EventReader, Stop, write_end};
 
 /// The maximum length of the file in bytes.
@@ -48,13 +48,13 @@ pub(crate) fn write_rest<S: Source, K: Sink>(
 {
     let mut draft = Draft {
         size,
-        gathered: Gathered::new(),
+        buffered: OutputBuffer::new(),
     };
-    let mut since = reader.place();
+    let mut since = reader.offset();
     let mut number = u64::from(read);
     'events: loop {
-        match write_at_pause(reader, source, since, &mut draft.gathered, out) {
-            Ok(place) => since = place,
+        match write_at_pause(reader, source, since, &mut draft.buffered, out) {
+            Ok(offset) => since = offset,
             Err(event) => return CutEnding::WriteFailed { event },
         }
         number += 1;
@@ -89,9 +89,9 @@ fn put_record<K: Sink>(
     allowed(*event);
     let after = draft.size + record_size(event);
     if after + 4 > LIMIT {
-        return Err(end_too_long(number, &mut draft.gathered, out));
+        return Err(end_too_long(number, &mut draft.buffered, out));
     }
-    match put_bytes(number, &mut draft.gathered, out, event) {
+    match put_bytes(number, &mut draft.buffered, out, event) {
         Ok(()) => {
             draft.size = after;
             Ok(())
@@ -101,12 +101,12 @@ fn put_record<K: Sink>(
 }
 
 // Ends at a record that would make the file too long. Flushes the buffer first; if that fails, returns `WriteFailed`.
-fn end_too_long<K: Sink>(number: u64, gathered: &mut Gathered, out: &mut K) -> CutEnding
-    ensures ends { EndsTooLong number gathered.old (K.held out.old) (K.held out.new) result }
+fn end_too_long<K: Sink>(number: u64, buffered: &mut OutputBuffer, out: &mut K) -> CutEnding
+    ensures ends { EndsTooLong number buffered.old (K.held out.old) (K.held out.new) result }
     ensures known { EndsWriting (K.faults out.old) (K.faults out.new) result }
     ensures faults { K.faults out.old ≤ K.faults out.new }
 {
-    match gathered.write(out) {
+    match buffered.write(out) {
         Ok(()) => CutEnding::TooLong { event: number },
         Err(event) => CutEnding::WriteFailed { event },
     }
@@ -120,7 +120,7 @@ fn end_reading<K: Sink>(stop: Stop, number: u64, draft: &mut Draft, out: &mut K)
     ensures cause { MayWriteFault result → Rose (K.faults out.old) (K.faults out.new) }
     ensures faults { K.faults out.old ≤ K.faults out.new }
 {
-    match draft.gathered.write(out) {
+    match draft.buffered.write(out) {
         Ok(()) => finish(stop, number, out),
         Err(event) => CutEnding::WriteFailed { event },
     }

@@ -20,9 +20,9 @@ words_append [] ys first next = next
 words_append (x ∷ xs) ys first next = (first.0, words_append xs ys first.1 next)
 
 module _ (ram : List ℕ) (fits : (address : ℕ) → word_at ram address < 2 ^ 32) where
-  behind_fit : (address n : ℕ) → AreWords (words_behind ram address n)
-  behind_fit address zero = tt
-  behind_fit address (suc n) = (fits (address + 4), behind_fit (address + 4) n)
+  after_fit : (address n : ℕ) → AreWords (words_behind ram address n)
+  after_fit address zero = tt
+  after_fit address (suc n) = (fits (address + 4), after_fit (address + 4) n)
 
   first_fit : (block : Block) (i : ℕ) → AreWords (first_words ram block i)
   first_fit block zero = tt
@@ -32,7 +32,7 @@ module _ (ram : List ℕ) (fits : (address : ℕ) → word_at ram address < 2 ^ 
   nodes_fit : (nodes : List ℕ) → AreWords (flat_map (node_words ram) nodes)
   nodes_fit [] = tt
   nodes_fit (node ∷ nodes) =
-      words_append (node_words ram node) (flat_map (node_words ram) nodes) (behind_fit node (word_count ram node))
+      words_append (node_words ram node) (flat_map (node_words ram) nodes) (after_fit node (word_count ram node))
       (nodes_fit nodes)
 
   list_fit : (start : ℕ) → AreWords (list_words ram start)
@@ -58,7 +58,7 @@ block_allowed ram block fits = words_allowed (block_words ram block) (first_fit 
 
 pub node_allowed : (ram : List ℕ) (node : ℕ) → ((address : ℕ) → word_at ram address < 2 ^ 32)
     → AllowsAll 2 (map event.Gp0 (node_words ram node))
-node_allowed ram node fits = words_allowed (node_words ram node) (behind_fit ram fits node (word_count ram node))
+node_allowed ram node fits = words_allowed (node_words ram node) (after_fit ram fits node (word_count ram node))
 
 pub list_allowed : (ram : List ℕ) (start : ℕ) → ((address : ℕ) → word_at ram address < 2 ^ 32)
     → AllowsAll 2 (map event.Gp0 (list_words ram start))

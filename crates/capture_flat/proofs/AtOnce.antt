@@ -5,11 +5,11 @@ use Rattle.std.proofs.Common.{◌^◌, None, length, refl, ap, sym, subst, ◌�
 use Rattle.dev_io.proofs.Parts.{taken_on}
 use Rattle.gathered_out.specs.Pieces.{Piece}
 use Rattle.gathered_out.specs.Puts.{BreaksWriting, holding}
-use Rattle.gathered_out.proofs.Gathers.{gathers_more, gathers_off}
+use Rattle.gathered_out.proofs.Buffers.{buffers_more, buffers_off}
 use Rattle.gpu_capture.specs.Capture.{capture, limit}
-use Rattle.gpu_capture.specs.Reader.{AreNeeded as ReaderNeeds, Takes, capture_from, work_left, standing}
+use Rattle.gpu_capture.specs.Reader.{AreNeeded as ReaderNeeds, Takes, capture_from, work_left, reader_input}
 use Rattle.gpu_capture.specs.State.{ReaderState}
-use Rattle.gpu_capture.specs.Words.{StopsBehind, TakesWords, word_events}
+use Rattle.gpu_capture.specs.Words.{StopsAfter, TakesWords, word_events}
 use Rattle.gpu_capture.specs.Written.{AllowsAll}
 use Rattle.gpu_capture.specs.declared.event.Event.{Event}
 use Rattle.gpu_capture.specs.declared.event.Stop.{Stop}
@@ -20,7 +20,7 @@ use Rattle.event_play.specs.Listing.{ArePut, PutsPieces}
 use Rattle.event_play.specs.OwnWords.{Tells}
 use Rattle.event_play.specs.Pausing.{Pauses}
 use Rattle.event_play.specs.PlayedWords.{after_words}
-use Rattle.event_play.specs.Replay.{Tale, Script, from_state, raised}
+use Rattle.event_play.specs.Replay.{Replay, Script, from_state, raised}
 use Rattle.event_play.specs.RigState.{RigState, Stands as RigStands}
 use Rattle.event_play.specs.Step.{Machine}
 use Rattle.event_play.specs.Streams.{Outlets, Streams, streams, without_sink}
@@ -28,7 +28,7 @@ use Rattle.event_play.specs.Told.{told_notes}
 use Rattle.event_play.proofs.Following.{ReadsTo, read_words}
 use Rattle.event_play.proofs.InARow.{words_are}
 use Rattle.event_play.proofs.Reaching.{beside}
-use Rattle.capture_flat.specs.OneEvent.{PassesEvent, stage}
+use Rattle.capture_flat.specs.OneEvent.{PassesEvent, flat_play_state}
 use Rattle.capture_flat.specs.Out.{begun}
 use Rattle.capture_flat.specs.Passing.{EndsFlat, Way}
 use Rattle.capture_flat.specs.Records.{longer, record_pieces}
@@ -37,19 +37,19 @@ use Rattle.capture_flat.specs.declared.file.Draft.{Draft}
 use Rattle.capture_flat.specs.declared.file.FlatFile.{FlatFile}
 use Rattle.capture_flat.proofs.Awaiting.{Paused, pauses_on}
 use Rattle.capture_flat.proofs.Following.{Passes, heard_on, passes_on, spent_within}
-use Rattle.event_play.proofs.Behind.{few_behind}
+use Rattle.event_play.proofs.After.{few_after}
 use Rattle.capture_flat.proofs.Lacking.{WasDue, due_more, lacks_records}
 use Rattle.capture_flat.proofs.PlayedWords.{more_cost, more_notes, same_played, same_state, words_follow}
-use Rattle.capture_flat.proofs.PlayedWords.{words_gathered, words_length, words_small}
+use Rattle.capture_flat.proofs.PlayedWords.{words_buffered, words_length, words_small}
 use Rattle.capture_flat.proofs.Stopping.{reading_ends}
 
 -- the number of words read, whether or not the reader stopped after them
 pub words_count : {Value : Type 0} (p q : Progress) (left after : Option (List ℕ)) (words : List ℕ)
-    (read : Result Value Stop) → OnOk read (TakesWords (standing p left) (standing q after) words)
-    → IfErr read (λ stop. StopsBehind (standing p left) (standing q after) words stop)
-    → q.place ≡ p.place + 4 * length words
-words_count p q left after words (Ok v) takes behind = takes.place
-words_count p q left after words (Err stop) takes behind = behind.takes.place
+    (read : Result Value Stop) → OnOk read (TakesWords (reader_input p left) (reader_input q after) words)
+    → IfErr read (λ stop. StopsAfter (reader_input p left) (reader_input q after) words stop)
+    → q.offset ≡ p.offset + 4 * length words
+words_count p q left after words (Ok v) takes stopping = takes.offset
+words_count p q left after words (Err stop) takes stopping = stopping.takes.offset
 
 -- Of no bytes, none is unnecessary.
 none_needed : (p : Progress) → ReaderNeeds p []
@@ -57,10 +57,10 @@ none_needed p [] more is some = absurd (some (sym is))
 none_needed p (x ∷ part) more is some = absurd cc
 
 -- the buffer after some events could not be flushed
-pub passes_off : (start : Tale) (version : ℕ) (before now : Streams) (rig : RigState) (p : Progress) (draft : Draft)
-    (since : ℕ) → Passes (raised start version) version before now rig p draft since → p.place < since + 4096
+pub passes_off : (start : Replay) (version : ℕ) (before now : Streams) (rig : RigState) (p : Progress) (draft : Draft)
+    (since : ℕ) → Passes (raised start version) version before now rig p draft since → p.offset < since + 4096
     → 1 ≤ p.version → version ≡ p.version → (held : Option (List ℕ)) (lacking : ℕ)
-    → BreaksWriting now.held held draft.gathered lacking
+    → BreaksWriting now.held held draft.buffered lacking
     → EndsFlat start before (streams now.left held now.heard now.steps) rig (WriteFailed lacking)
 passes_off start version before now rig p draft since was near known same held lacking breaks =
     let first = raised start version in
@@ -69,33 +69,33 @@ passes_off start version before now rig p draft since was near known same held l
       taken = was.taken;
       events = was.events;
       flat = was.flat;
-      tale = was.tale;
+      replay = was.replay;
     } in
-    let few = few_behind p was.events was.taken [] was.flushed since was.reading was.says was.since_is near
+    let few = few_after p was.events was.taken [] was.flushed since was.reading was.says was.since_is near
     (none_needed p) in
     lacks_records start before (streams now.left held now.heard now.steps) rig way was.flushed lacking was.bytes
     was.follows (λ rest. (capture_from p rest, was.says rest, version_from p rest known ∙ sym same))
-    (gathers_off (WasDue first version was.events was.flushed was.taken) before.held
-    (begun version was.tale.played was.flat) now.held held draft.gathered lacking was.gathers breaks)
+    (buffers_off (WasDue first version was.events was.flushed was.taken) before.held
+    (begun version was.replay.played was.flat) now.held held draft.buffered lacking was.buffers breaks)
     (rw (append-nil was.taken) at few) was.stands was.heard was.cost
-    (spent_within before.steps now.steps was.tale.cost was.tale.box_cost was.cost was.small)
+    (spent_within before.steps now.steps was.replay.cost was.replay.box_cost was.cost was.small)
 
 -- Pieces counted as buffered were added, and some of them may be flushed.
-pub pieces_out : (first : Tale) (version : ℕ) (before : Streams) (left held now : Option (List ℕ))
+pub pieces_out : (first : Replay) (version : ℕ) (before : Streams) (left held now : Option (List ℕ))
     (heard : List Reading) (steps : ℕ) (rig : RigState) (p : Progress) (file : FlatFile)
-    (gathered pieces new : List Piece) (since : ℕ)
+    (buffered pieces new : List Piece) (since : ℕ)
     → Passes first version before (streams left held heard steps) rig p
-    (record { file = file; gathered = gathered ++ pieces }) since
-    → ArePut pieces (holding held gathered) (holding now new)
-    → Passes first version before (streams left now heard steps) rig p (record { file = file; gathered = new }) since
-pieces_out first version before left held now heard steps rig p file gathered pieces new since was put = record {
+    (record { file = file; buffered = buffered ++ pieces }) since
+    → ArePut pieces (holding held buffered) (holding now new)
+    → Passes first version before (streams left now heard steps) rig p (record { file = file; buffered = new }) since
+pieces_out first version before left held now heard steps rig p file buffered pieces new since was put = record {
   taken = was.taken;
   bytes = was.bytes;
   events = was.events;
   reading = was.reading;
   says = was.says;
   needed = was.needed;
-  tale = was.tale;
+  replay = was.replay;
   flat = was.flat;
   follows = was.follows;
   stands = was.stands;
@@ -103,15 +103,15 @@ pieces_out first version before left held now heard steps rig p file gathered pi
   size_is = was.size_is;
   fits = was.fits;
   flushed = was.flushed;
-  behind = was.behind;
+  after = was.after;
   taken_is = was.taken_is;
   since_is = was.since_is;
-  gathers = record {
-    mid = was.gathers.mid;
-    pieces = was.gathers.pieces;
-    out = put.out was.gathers.mid was.gathers.pieces was.gathers.out;
-    all_are = was.gathers.all_are;
-    parts = was.gathers.parts;
+  buffers = record {
+    mid = was.buffers.mid;
+    pieces = was.buffers.pieces;
+    out = put.out was.buffers.mid was.buffers.pieces was.buffers.out;
+    all_are = was.buffers.all_are;
+    parts = was.buffers.parts;
   };
   heard = was.heard;
   cost = was.cost;
@@ -121,7 +121,7 @@ pieces_out first version before left held now heard steps rig p file gathered pi
 -- ---- after an event, and after a block of words if one was read
 
 -- the state at the end of a loop pass
-pub record GoesOn (start : Tale) (version : ℕ) (before now : Streams) (rig : RigState) (progress : Progress)
+pub record GoesOn (start : Replay) (version : ℕ) (before now : Streams) (rig : RigState) (progress : Progress)
     (draft : Draft) (since : ℕ) : Type 0 where
   pub paused : Paused (raised start version) version before now rig progress draft since
   pub same : version ≡ progress.version
@@ -129,24 +129,26 @@ pub record GoesOn (start : Tale) (version : ℕ) (before now : Streams) (rig : R
 
 -- What else a loop pass keeps. The reader has not stopped, and its remaining steps do not grow. An End record fits. The
 -- version is the same, and the counts of faults do not fall.
-pub record Keeps (version work : ℕ) (read_before read_now write_before write_now : ℕ) (reader : ReaderState)
+pub record Keeps (version operation : ℕ) (read_before read_now write_before write_now : ℕ) (reader : ReaderState)
     (draft : Draft) : Type 0 where
   pub running : reader.stop ≡ None
-  pub forward : work_left reader.progress ≤ work
+  pub forward : work_left reader.progress ≤ operation
   pub few : draft.file.size + 4 ≤ 2 ^ 30
   pub version_is : draft.file.version ≡ version
   pub read_faults : read_before ≤ read_now
   pub write_faults : write_before ≤ write_now
 
 -- An event was played and its records added. Then the buffer was flushed if the reader pauses.
-pub event_goes : (start : Tale) (version : ℕ) (before : Streams) (left_mid left : Option (List ℕ)) (mid now : Outlets)
+pub event_goes : (start : Replay) (version : ℕ) (before : Streams) (left_mid left : Option (List ℕ)) (mid now : Outlets)
     (was_rig rig : RigState) (old new : Progress) (draft : Draft) (since : ℕ)
     (was : Passes (raised start version) version before (beside left_mid mid) was_rig old draft since)
-    → old.place < since + 4096 → (given : Event) → Takes (standing old left_mid) (standing new left) (given ∷ [])
+    → old.offset < since + 4096 → (given : Event)
+    → Takes (reader_input old left_mid) (reader_input new left) (given ∷ [])
     → version ≡ new.version
     → 1 ≤ new.version → (is last : Draft) (at : ℕ) (held : Option (List ℕ))
-    → PassesEvent was.tale given (stage draft mid was_rig) (stage is now rig) → last.file ≡ is.file
-    → Pauses new.place since (holding now.held is.gathered) (holding held last.gathered) at
+    → PassesEvent was.replay given (flat_play_state draft mid was_rig) (flat_play_state is now rig)
+    → last.file ≡ is.file
+    → Pauses new.offset since (holding now.held is.buffered) (holding held last.buffered) at
     → GoesOn start version before (streams left held now.heard now.steps) rig new last at
 event_goes start version before left_mid left mid now was_rig rig old new draft since was near given takes same known is
     last at held passed file pauses = record {
@@ -160,7 +162,7 @@ event_goes start version before left_mid left mid now was_rig rig old new draft 
 
 -- ---- words that were read and played, as if all their records were still buffered
 
-module _ (start : Tale) (version : ℕ) (before : Streams) (left held : Option (List ℕ))
+module _ (start : Replay) (version : ℕ) (before : Streams) (left held : Option (List ℕ))
     (heard heard_now : List Reading) (steps steps_now : ℕ) (was_rig rig : RigState) (p q : Progress) (draft : Draft)
     (since : ℕ) (words : List ℕ)
     (was : Passes (raised start version) version before (streams left held heard steps) was_rig p draft since)
@@ -169,27 +171,27 @@ module _ (start : Tale) (version : ℕ) (before : Streams) (left held : Option (
     (tells : (s : Machine) → RigStands was_rig s → Tells (after_words (from_state s was_rig.played) words)
     (without_sink heard steps) (without_sink heard_now steps_now) rig)
     (allows : AllowsAll 2 (word_events words)) (fits : draft.file.size + 8 * length words + 4 ≤ limit) where
-  abbrev first : Tale
+  abbrev first : Replay
   first = raised start version
 
-  abbrev next : Tale
-  next = after_words was.tale words
+  abbrev next : Replay
+  next = after_words was.replay words
 
   abbrev events : List Event
   events = was.events ++ word_events words
 
   -- the draft with the records of the words buffered
-  abbrev gathering : Draft
-  gathering = record {
+  abbrev buffering : Draft
+  buffering = record {
     file = longer draft.file (8 * length words);
-    gathered = draft.gathered ++ record_pieces was_rig.played words;
+    buffered = draft.buffered ++ record_pieces was_rig.played words;
   }
 
   -- what the bytes give to play, from the replay `first` on
   abbrev script : List ℕ → Script
   script bytes = record { first = first; captured = capture bytes }
 
-  reads_before : ReadsTo script p was.tale was.taken was.events []
+  reads_before : ReadsTo script p was.replay was.taken was.events []
   reads_before = record {
     first = first;
     version = p.version;
@@ -200,12 +202,12 @@ module _ (start : Tale) (version : ℕ) (before : Streams) (left held : Option (
     follows = record { replays = was.follows.replays };
   }
 
-  reads_all : (after : Option (List ℕ)) (takes : TakesWords (standing p left) (standing q after) words)
+  reads_all : (after : Option (List ℕ)) (takes : TakesWords (reader_input p left) (reader_input q after) words)
       → ReadsTo script q next (was.taken ++ takes.taken) events []
-  reads_all after takes = read_words script p q left after was.tale next was.taken words was.events reads_before takes
+  reads_all after takes = read_words script p q left after was.replay next was.taken words was.events reads_before takes
       (record {
         replays = λ more stop rest.
-            words_are was.tale words (record { version = 0; events = more; ending = stop; rest = rest });
+            words_are was.replay words (record { version = 0; events = more; ending = stop; rest = rest });
       })
 
   known : 1 ≤ q.version
@@ -214,24 +216,24 @@ module _ (start : Tale) (version : ℕ) (before : Streams) (left held : Option (
   same : version ≡ q.version
   same = version_is ∙ sym on
 
-  counted : 1 ≤ was.tale.played
+  counted : 1 ≤ was.replay.played
   counted = let e = was.stands.played in omega (arith, e, some)
 
   -- the rig and the taps after the words, from the replay before them
-  told : Tells (after_words (from_state was.tale.state was.tale.played) words) (without_sink heard steps)
+  told : Tells (after_words (from_state was.replay.state was.replay.played) words) (without_sink heard steps)
       (without_sink heard_now steps_now) rig
-  told = rw was.stands.played (tells was.tale.state was.stands.state)
+  told = rw was.stands.played (tells was.replay.state was.stands.state)
 
-  words_play : (after : Option (List ℕ)) → TakesWords (standing p left) (standing q after) words
-      → Passes first version before (streams after held heard_now steps_now) rig q gathering since
+  words_play : (after : Option (List ℕ)) → TakesWords (reader_input p left) (reader_input q after) words
+      → Passes first version before (streams after held heard_now steps_now) rig q buffering since
   words_play after takes =
       let reads = reads_all after takes in
       let taken = was.taken ++ takes.taken in
       let size_is = was.size_is in
-      let length_is = words_length version was.tale was.flat words counted in
+      let length_is = words_length version was.replay was.flat words counted in
       let cost = was.cost in
       let spent = told.cost in
-      let costs = more_cost was.tale words in
+      let costs = more_cost was.replay words in
       record {
         taken = taken;
         bytes = taken_on before.left left after was.taken takes.taken was.bytes takes.bytes;
@@ -239,60 +241,60 @@ module _ (start : Tale) (version : ℕ) (before : Streams) (left held : Option (
         reading = inr known;
         says = λ rest. rw (append-nil events) at (reads.says rest);
         needed = rw (append-nil events) at reads.needed;
-        tale = next;
+        replay = next;
         flat = was.flat ++ word_events words;
-        follows = words_follow first was.tale was.events was.flat words was.follows allows;
+        follows = words_follow first was.replay was.events was.flat words was.follows allows;
         stands = record {
-          state = rw (same_state was.tale words) told.stands.state;
-          played = same_played was.tale words ∙ told.stands.played;
+          state = rw (same_state was.replay words) told.stands.state;
+          played = same_played was.replay words ∙ told.stands.played;
         };
         version_is = was.version_is;
         size_is = omega (arith, size_is, length_is);
         fits = omega (arith, fits);
         flushed = was.flushed;
-        behind = was.behind ++ takes.taken;
-        taken_is = ap (λ bs. bs ++ takes.taken) was.taken_is ∙ append_assoc was.flushed was.behind takes.taken;
+        after = was.after ++ takes.taken;
+        taken_is = ap (λ bs. bs ++ takes.taken) was.taken_is ∙ append_assoc was.flushed was.after takes.taken;
         since_is = was.since_is;
-        gathers = rw (← was.stands.played)
-            (words_gathered first version was.flushed was.behind takes.taken taken before.held held
-            (ap (λ bs. bs ++ takes.taken) was.taken_is) words was.tale was.events was.flat draft.gathered was.follows
+        buffers = rw (← was.stands.played)
+            (words_buffered first version was.flushed was.after takes.taken taken before.held held
+            (ap (λ bs. bs ++ takes.taken) was.taken_is) words was.replay was.events was.flat draft.buffered was.follows
             allows counted (omega (arith, fits, size_is)) (rw was.taken_is at was.needed)
-            (gathers_more (WasDue first version was.events was.flushed was.taken)
-            (WasDue first version was.events was.flushed taken) before.held (begun version was.tale.played was.flat)
-            held draft.gathered
+            (buffers_more (WasDue first version was.events was.flushed was.taken)
+            (WasDue first version was.events was.flushed taken) before.held (begun version was.replay.played was.flat)
+            held draft.buffered
             (due_more first version was.events [] was.events was.flushed was.taken takes.taken
             (sym (append-nil was.events)))
-            was.gathers));
-        heard = heard_on before.heard heard heard_now was.tale.notes _ was.heard told.heard
-            ∙ ap (λ notes. told_notes notes before.heard) (sym (more_notes was.tale words));
+            was.buffers));
+        heard = heard_on before.heard heard heard_now was.replay.notes _ was.heard told.heard
+            ∙ ap (λ notes. told_notes notes before.heard) (sym (more_notes was.replay words));
         cost = omega (arith, cost, spent, costs);
-        small = words_small was.tale words was.small;
+        small = words_small was.replay words was.small;
       }
 
   -- ---- their records are added
 
   module _ (is : Draft) (now : Option (List ℕ)) (file : is.file ≡ longer draft.file (8 * length words)) where
     abbrev Puts : {Value : Type 0} → Result Value ℕ → Type 0
-    Puts result = PutsPieces (record_pieces was_rig.played words) (holding held draft.gathered)
-        (holding now is.gathered) result
+    Puts result = PutsPieces (record_pieces was_rig.played words) (holding held draft.buffered)
+        (holding now is.buffered) result
 
     -- all of them were added
     pub words_went : {Value : Type 0} (after : Option (List ℕ)) (v : Value) → Puts {Value = Value} (Ok v)
-        → TakesWords (standing p left) (standing q after) words
+        → TakesWords (reader_input p left) (reader_input q after) words
         → Passes first version before (streams after now heard_now steps_now) rig q is since
     words_went after v puts takes =
         let P : FlatFile → Type 0 = λ f. Passes first version before (streams after now heard_now steps_now) rig q
-        (record { file = f; gathered = is.gathered }) since in
+        (record { file = f; buffered = is.buffered }) since in
         subst P (sym file)
         (pieces_out first version before after held now heard_now steps_now rig q
-        (longer draft.file (8 * length words)) draft.gathered (record_pieces was_rig.played words) is.gathered since
+        (longer draft.file (8 * length words)) draft.buffered (record_pieces was_rig.played words) is.buffered since
         (words_play after takes) puts.ok)
 
     -- All were added. Then the buffer was flushed if the reader pauses.
     pub words_go : {Value : Type 0} (after : Option (List ℕ)) (v : Value) → Puts {Value = Value} (Ok v)
-        → TakesWords (standing p left) (standing q after) words
+        → TakesWords (reader_input p left) (reader_input q after) words
         → (last : Draft) (at : ℕ) (written : Option (List ℕ)) → last.file ≡ is.file
-        → Pauses q.place since (holding now is.gathered) (holding written last.gathered) at
+        → Pauses q.offset since (holding now is.buffered) (holding written last.buffered) at
         → GoesOn start version before (streams after written heard_now steps_now) rig q last at
     words_go after v puts takes last at written same_file pauses = record {
       paused = pauses_on first version before (streams after now heard_now steps_now) rig q is last since at written
@@ -303,14 +305,14 @@ module _ (start : Tale) (version : ℕ) (before : Streams) (left held : Option (
 
     -- A record could not be written, whether or not the reader stopped after the words.
     pub words_fail : {Value Got : Type 0} (after : Option (List ℕ)) (lacking : ℕ) (read : Result Got Stop)
-        → Puts {Value = Value} (Err lacking) → OnOk read (TakesWords (standing p left) (standing q after) words)
-        → IfErr read (λ stop. StopsBehind (standing p left) (standing q after) words stop)
-        → q.place < since + 4096 → version ≤ 3
+        → Puts {Value = Value} (Err lacking) → OnOk read (TakesWords (reader_input p left) (reader_input q after) words)
+        → IfErr read (λ stop. StopsAfter (reader_input p left) (reader_input q after) words stop)
+        → q.offset < since + 4096 → version ≤ 3
         → EndsFlat start before (streams after now heard_now steps_now) rig (WriteFailed lacking)
-    words_fail after lacking (Ok v) puts takes behind near low =
-        passes_off start version before (streams after held heard_now steps_now) rig q gathering since
+    words_fail after lacking (Ok v) puts takes stopping near low =
+        passes_off start version before (streams after held heard_now steps_now) rig q buffering since
         (words_play after takes) near known same now lacking puts.failed
-    words_fail after lacking (Err stop) puts takes behind near low =
-        reading_ends start version before behind.left after held now heard_now steps_now rig q q gathering since
-        (words_play behind.left behind.takes) near same rig.played stop (WriteFailed lacking) behind.stops
+    words_fail after lacking (Err stop) puts takes stopping near low =
+        reading_ends start version before stopping.left after held now heard_now steps_now rig q q buffering since
+        (words_play stopping.left stopping.takes) near same rig.played stop (WriteFailed lacking) stopping.stops
         low refl (inr (lacking, refl, puts.failed))

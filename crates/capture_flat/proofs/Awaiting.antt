@@ -6,15 +6,15 @@ use Rattle.dev_io.proofs.Appended.{appended-nil}
 use Rattle.dev_io.proofs.Parts.{prepended-nil}
 use Rattle.gathered_out.specs.Pieces.{Piece}
 use Rattle.gathered_out.specs.Puts.{holding}
-use Rattle.gathered_out.proofs.Gathers.{Gathers, gathers_none, gathers_written}
+use Rattle.gathered_out.proofs.Buffers.{Buffers, buffers_none, buffers_written}
 use Rattle.gpu_capture.proofs.Taken.{taken_count}
-use Rattle.gpu_capture.specs.Reader.{Takes, StopsAt, IsStart, standing}
+use Rattle.gpu_capture.specs.Reader.{Takes, StopsAt, IsStart, reader_input}
 use Rattle.gpu_capture.specs.declared.event.Event.{Event}
 use Rattle.gpu_capture.specs.declared.event.Stop.{Stop}
 use Rattle.gpu_capture.specs.declared.progress.Progress.{Progress}
 use Rattle.gpu_taps.specs.Tally.{Reading}
 use Rattle.event_play.specs.Pausing.{Pauses}
-use Rattle.event_play.specs.Replay.{Tale, from_state, raised}
+use Rattle.event_play.specs.Replay.{Replay, from_state, raised}
 use Rattle.event_play.specs.RigState.{RigState, StandsFor}
 use Rattle.event_play.specs.Step.{Machine}
 use Rattle.event_play.specs.Streams.{Streams, streams}
@@ -26,12 +26,12 @@ use Rattle.capture_flat.proofs.Lacking.{WasDue}
 use Rattle.capture_flat.proofs.Following.{Passes, follows_none}
 use Rattle.gpu_capture.proofs.Needed.{Answers, answers, none_needed, takes_version, stops_version}
 
-pub record Awaits (start : Tale) (version : ℕ) (before now : Streams) (rig : RigState) (new : Progress)
+pub record Awaits (start : Replay) (version : ℕ) (before now : Streams) (rig : RigState) (new : Progress)
     (draft : Draft) (since : ℕ) (next : Result Event Stop) : Type 0 where
   pub left : Option (List ℕ)
   pub old : Progress
   pub was : Passes (raised start version) version before (streams left now.held now.heard now.steps) rig old draft since
-  pub near : old.place < since + 4096
+  pub near : old.offset < since + 4096
   pub same : version ≡ new.version
   pub answer : Answers old new left now.left next
 
@@ -51,10 +51,10 @@ stops_is old new before now next stop is answer = rw is at answer
 pub starts : (s : Machine) (left left_now held : Option (List ℕ)) (heard : List Reading) (steps : ℕ) (rig : RigState)
     (first new : Progress) (version : ℕ) (draft : Draft)
     (next : Result Event Stop) → IsStart first → draft.file ≡ record { version = version; size = 0 }
-    → draft.gathered ≡ [] → StandsFor rig (raised (from_state s 0) version) → version ≡ new.version
-    → IfOk next (λ event. Takes (standing first left) (standing new left_now) (event ∷ []))
+    → draft.buffered ≡ [] → StandsFor rig (raised (from_state s 0) version) → version ≡ new.version
+    → IfOk next (λ event. Takes (reader_input first left) (reader_input new left_now) (event ∷ []))
     → OnOk next (1 ≤ new.version)
-    → IfErr next (λ stop. StopsAt (standing first left) (standing new left_now) stop)
+    → IfErr next (λ stop. StopsAt (reader_input first left) (reader_input new left_now) stop)
     → Awaits (from_state s 0) version (streams left held heard steps) (streams left_now held heard steps) rig new
     draft 0 next
 starts s left left_now held heard steps rig first new version draft next is file empty stands same takes known stops =
@@ -64,9 +64,9 @@ starts s left left_now held heard steps rig first new version draft next is file
     let nothing : begun version start.played [] ≡ [] = rw unplayed refl in
     let size : draft.file.size ≡ 0 = ap (λ (f : FlatFile). f.size) file in
     let due = WasDue start version [] [] [] in
-    let Q : List Piece → Type 0 = λ ps. Gathers due held (begun version start.played []) held ps in
+    let Q : List Piece → Type 0 = λ ps. Buffers due held (begun version start.played []) held ps in
     let P : List ℕ → Type 0 = λ bs. held ≡ appended held bs in
-    let place = is.place in
+    let offset = is.offset in
     record {
       left = left;
       old = first;
@@ -76,7 +76,7 @@ starts s left left_now held heard steps rig first new version draft next is file
         events = [];
         says = λ rest. rw is.version refl;
         needed = none_needed [] refl;
-        tale = start;
+        replay = start;
         flat = [];
         follows = follows_none start;
         stands = stands;
@@ -85,29 +85,30 @@ starts s left left_now held heard steps rig first new version draft next is file
         size_is = size ∙ ap length (sym nothing);
         fits = omega (arith, size);
         flushed = [];
-        behind = [];
+        after = [];
         taken_is = refl;
         since_is = omega arith;
-        gathers = subst Q (sym empty)
-            (gathers_none due held (begun version start.played []) held
+        buffers = subst Q (sym empty)
+            (buffers_none due held (begun version start.played []) held
             (subst P (sym nothing) (sym (appended-nil held))));
         heard = rw none.notes refl;
         cost = omega arith;
         small = omega (arith, none.cost);
       };
-      near = omega (arith, place);
+      near = omega (arith, offset);
       same = same;
       answer = answers first new left left_now next takes known stops;
     }
 
 -- ---- what the reader returns next
 
-pub reads : (start : Tale) (version : ℕ) (before now : Streams) (rig : RigState) (old new : Progress) (draft : Draft)
+pub reads : (start : Replay) (version : ℕ) (before now : Streams) (rig : RigState) (old new : Progress) (draft : Draft)
     (since : ℕ) (left : Option (List ℕ))
     (next : Result Event Stop) → Passes (raised start version) version before now rig old draft since
-    → old.place < since + 4096 → version ≡ old.version → 1 ≤ old.version
-    → IfOk next (λ event. Takes (standing old now.left) (standing new left) (event ∷ [])) → OnOk next (1 ≤ new.version)
-    → IfErr next (λ stop. StopsAt (standing old now.left) (standing new left) stop)
+    → old.offset < since + 4096 → version ≡ old.version → 1 ≤ old.version
+    → IfOk next (λ event. Takes (reader_input old now.left) (reader_input new left) (event ∷ []))
+    → OnOk next (1 ≤ new.version)
+    → IfErr next (λ stop. StopsAt (reader_input old now.left) (reader_input new left) stop)
     → Awaits start version before (streams left now.held now.heard now.steps) rig new draft since next
 reads start version before now rig old new draft since left (Ok event) was near same was_known takes known stops =
     record {
@@ -131,25 +132,25 @@ reads start version before now rig old new draft since left (Err stop) was near 
 -- ---- a pause
 
 -- before the next read: the reader is less than 4,096 bytes after the last flush
-pub record Paused (first : Tale) (version : ℕ) (before now : Streams) (rig : RigState) (progress : Progress)
+pub record Paused (first : Replay) (version : ℕ) (before now : Streams) (rig : RigState) (progress : Progress)
     (draft : Draft) (since : ℕ) : Type 0 where
   pub passes : Passes first version before now rig progress draft since
-  pub near : progress.place < since + 4096
+  pub near : progress.offset < since + 4096
 
-paused_on : (first : Tale) (version : ℕ) (before now : Streams) (rig : RigState) (progress : Progress)
+paused_on : (first : Replay) (version : ℕ) (before now : Streams) (rig : RigState) (progress : Progress)
     (draft : Draft) (since at : ℕ) (new : List Piece) (held : Option (List ℕ)) → 1 ≤ progress.version
     → Passes first version before now rig progress draft since
-    → Pauses progress.place since (holding now.held draft.gathered) (holding held new) at
+    → Pauses progress.offset since (holding now.held draft.buffered) (holding held new) at
     → Paused first version before (streams now.left held now.heard now.steps) rig progress
-    (record { file = draft.file; gathered = new }) at
+    (record { file = draft.file; buffered = new }) at
 paused_on first version before now rig progress draft since at new held known was (inl on) = record {
   passes = rw (on.0, on.2, on.3) was;
   near = let e = on.0 in let lt = on.1 in omega (arith, e, lt);
 }
 paused_on first version before now rig progress draft since at new held known was (inr written) =
-    let all = begun version was.tale.played was.flat in
+    let all = begun version was.replay.played was.flat in
     let due = WasDue first version was.events was.taken was.taken in
-    let Q : List Piece → Type 0 = λ ps. Gathers due before.held all held ps in
+    let Q : List Piece → Type 0 = λ ps. Buffers due before.held all held ps in
     let count = taken_count progress was.events was.taken known was.says in
     let e = written.0 in
     record {
@@ -160,7 +161,7 @@ paused_on first version before now rig progress draft since at new held known wa
         reading = was.reading;
         says = was.says;
         needed = was.needed;
-        tale = was.tale;
+        replay = was.replay;
         flat = was.flat;
         follows = was.follows;
         stands = was.stands;
@@ -168,13 +169,13 @@ paused_on first version before now rig progress draft since at new held known wa
         size_is = was.size_is;
         fits = was.fits;
         flushed = was.taken;
-        behind = [];
+        after = [];
         taken_is = sym (append-nil was.taken);
         since_is = omega (arith, count, e);
-        gathers = subst Q (sym written.1)
-            (gathers_none due before.held all held
-            (gathers_written (WasDue first version was.events was.flushed was.taken) before.held all now.held held
-            draft.gathered was.gathers written.2));
+        buffers = subst Q (sym written.1)
+            (buffers_none due before.held all held
+            (buffers_written (WasDue first version was.events was.flushed was.taken) before.held all now.held held
+            draft.buffered was.buffers written.2));
         heard = was.heard;
         cost = was.cost;
         small = was.small;
@@ -183,13 +184,13 @@ paused_on first version before now rig progress draft since at new held known wa
     }
 
 -- the same for another draft of the same file
-pub pauses_on : (first : Tale) (version : ℕ) (before now : Streams) (rig : RigState) (progress : Progress)
+pub pauses_on : (first : Replay) (version : ℕ) (before now : Streams) (rig : RigState) (progress : Progress)
     (draft is : Draft) (since at : ℕ) (held : Option (List ℕ)) → 1 ≤ progress.version → is.file ≡ draft.file
     → Passes first version before now rig progress draft since
-    → Pauses progress.place since (holding now.held draft.gathered) (holding held is.gathered) at
+    → Pauses progress.offset since (holding now.held draft.buffered) (holding held is.buffered) at
     → Paused first version before (streams now.left held now.heard now.steps) rig progress is at
 pauses_on first version before now rig progress draft is since at held known file was pauses =
-    let on = paused_on first version before now rig progress draft since at is.gathered held known was pauses in
+    let on = paused_on first version before now rig progress draft since at is.buffered held known was pauses in
     let P : FlatFile → Type 0 = λ f. Paused first version before (streams now.left held now.heard now.steps) rig
-    progress (record { file = f; gathered = is.gathered }) at in
+    progress (record { file = f; buffered = is.buffered }) at in
     subst P (sym file) on

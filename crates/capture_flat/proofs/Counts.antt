@@ -9,12 +9,12 @@ use Rattle.gpu_capture.proofs.Spelled.{record_length}
 use Rattle.gpu_capture.specs.declared.event.Event.TheVariants.{Gp0, Skip}
 use Rattle.capture_flat.specs.Out.{spell_words}
 
-pub behind_length : (ram : List ℕ) (address n : ℕ) → length (words_behind ram address n) ≡ n
-behind_length ram address zero = refl
-behind_length ram address (suc n) = let e = behind_length ram (address + 4) n in omega arith
+pub after_length : (ram : List ℕ) (address n : ℕ) → length (words_behind ram address n) ≡ n
+after_length ram address zero = refl
+after_length ram address (suc n) = let e = after_length ram (address + 4) n in omega arith
 
 pub node_length : (ram : List ℕ) (node : ℕ) → length (node_words ram node) ≡ word_count ram node
-node_length ram node = behind_length ram node (word_count ram node)
+node_length ram node = after_length ram node (word_count ram node)
 
 first_length : (ram : List ℕ) (block : Block) (i : ℕ) → length (first_words ram block i) ≡ i
 first_length ram block zero = refl

@@ -2,11 +2,11 @@
 use Rattle.std.proofs.Common.{◌≡◌, ◌≤◌, inl, ◌+◌, ◌++◌, ℕ, List, [], ◌∷◌, length, length-append, refl, ap, sym}
 use Rattle.std.proofs.Common.{◌∙◌, append_assoc, append-nil, arith}
 use Rattle.dev_io.specs.Device.{prepended}
-use Rattle.gathered_out.proofs.Gathers.{BreaksDue}
+use Rattle.gathered_out.proofs.Buffers.{BreaksDue}
 use Rattle.gpu_capture.specs.Capture.{capture, limit}
 use Rattle.gpu_capture.specs.declared.event.Event.{Event}
-use Rattle.event_play.specs.Pausing.{most_behind}
-use Rattle.event_play.specs.Replay.{Tale, next_number, raised}
+use Rattle.event_play.specs.Pausing.{most_after}
+use Rattle.event_play.specs.Replay.{Replay, next_number, raised}
 use Rattle.event_play.specs.RigState.{RigState, StandsFor}
 use Rattle.event_play.specs.Streams.{Streams}
 use Rattle.event_play.specs.Told.{told_notes}
@@ -17,18 +17,18 @@ use Rattle.capture_flat.specs.declared.ending.FlatEnding.TheVariants.{WriteFaile
 
 -- `due` is the output of event `number`, one of these, and follows the output `was`. `flushed`: the bytes read at the
 -- last flush. The bytes that this event needs start with them.
-pub record WasDue (first : Tale) (version : ℕ) (events : List Event) (flushed taken : List ℕ) (number : ℕ)
+pub record WasDue (first : Replay) (version : ℕ) (events : List Event) (flushed taken : List ℕ) (number : ℕ)
     (was due : List ℕ) : Type 0 where
   pub earlier : List Event
   pub event : Event
   pub later : List Event
-  pub tale : Tale
+  pub replay : Replay
   pub flat : List Event
   pub are : events ≡ earlier ++ event ∷ later
-  pub follows : Follows first earlier tale flat
-  pub number_is : number ≡ next_number tale.played
-  pub was_is : was ≡ begun version tale.played flat
-  pub due_is : due ≡ due_at version tale event
+  pub follows : Follows first earlier replay flat
+  pub number_is : number ≡ next_number replay.played
+  pub was_is : was ≡ begun version replay.played flat
+  pub due_is : due ≡ due_at version replay event
   pub fits : length (flat_file first version (earlier ++ event ∷ [])) ≤ limit
   pub between : List ℕ
   pub rest : List ℕ
@@ -36,14 +36,14 @@ pub record WasDue (first : Tale) (version : ℕ) (events : List Event) (flushed 
   pub needed : AreNeeded capture (earlier ++ event ∷ []) (flushed ++ between)
 
 -- the same after further events and bytes are read
-pub due_more : (first : Tale) (version : ℕ) (events more all : List Event) (flushed taken further : List ℕ)
+pub due_more : (first : Replay) (version : ℕ) (events more all : List Event) (flushed taken further : List ℕ)
     → all ≡ events ++ more → (number : ℕ) (was due : List ℕ) → WasDue first version events flushed taken number was due
     → WasDue first version all flushed (taken ++ further) number was due
 due_more first version events more all flushed taken further all_are number was due is = record {
   earlier = is.earlier;
   event = is.event;
   later = is.later ++ more;
-  tale = is.tale;
+  replay = is.replay;
   flat = is.flat;
   are = all_are ∙ ap (λ (es : List Event). es ++ more) is.are
       ∙ append_assoc is.earlier (is.event ∷ is.later) more;
@@ -59,20 +59,20 @@ due_more first version events more all flushed taken further all_are number was 
 }
 
 -- the output of the last event read
-pub due_here : (first tale : Tale) (version : ℕ) (events flat : List Event) (given : Event)
-    (flushed behind taken further : List ℕ) → Follows first events tale flat
-    → length (flat_file first version (events ++ given ∷ [])) ≤ limit → taken ≡ flushed ++ behind
+pub due_here : (first replay : Replay) (version : ℕ) (events flat : List Event) (given : Event)
+    (flushed after taken further : List ℕ) → Follows first events replay flat
+    → length (flat_file first version (events ++ given ∷ [])) ≤ limit → taken ≡ flushed ++ after
     → AreNeeded capture (events ++ given ∷ []) (taken ++ further)
-    → WasDue first version (events ++ given ∷ []) flushed (taken ++ further) (next_number tale.played)
-    (begun version tale.played flat) (due_at version tale given)
-due_here first tale version events flat given flushed behind taken further follows fits taken_is needed =
-    let all : taken ++ further ≡ flushed ++ (behind ++ further) = ap (λ bs. bs ++ further) taken_is
-    ∙ append_assoc flushed behind further in
+    → WasDue first version (events ++ given ∷ []) flushed (taken ++ further) (next_number replay.played)
+    (begun version replay.played flat) (due_at version replay given)
+due_here first replay version events flat given flushed after taken further follows fits taken_is needed =
+    let all : taken ++ further ≡ flushed ++ (after ++ further) = ap (λ bs. bs ++ further) taken_is
+    ∙ append_assoc flushed after further in
     record {
       earlier = events;
       event = given;
       later = [];
-      tale = tale;
+      replay = replay;
       flat = flat;
       are = refl;
       follows = follows;
@@ -80,21 +80,21 @@ due_here first tale version events flat given flushed behind taken further follo
       was_is = refl;
       due_is = refl;
       fits = fits;
-      between = behind ++ further;
+      between = after ++ further;
       rest = [];
-      taken_is = all ∙ sym (append-nil (flushed ++ (behind ++ further)));
+      taken_is = all ∙ sym (append-nil (flushed ++ (after ++ further)));
       needed = rw all at needed;
     }
 
 -- The output of event `number` is incomplete.
-pub lacks_records : (start : Tale) (before now : Streams) (rig : RigState) (way : Way) (flushed : List ℕ) (number : ℕ)
+pub lacks_records : (start : Replay) (before now : Streams) (rig : RigState) (way : Way) (flushed : List ℕ) (number : ℕ)
     → before.left ≡ prepended way.taken now.left
-    → Follows (raised start way.version) way.events way.tale way.flat
+    → Follows (raised start way.version) way.events way.replay way.flat
     → SaysFirst capture way.version way.taken way.events
     → BreaksDue (WasDue (raised start way.version) way.version way.events flushed way.taken) before.held now.held number
-    → length way.taken ≤ length flushed + most_behind → StandsFor rig way.tale
-    → now.heard ≡ told_notes way.tale.notes before.heard → now.steps ≤ before.steps + way.tale.cost
-    → now.steps ≤ before.steps + way.tale.box_cost
+    → length way.taken ≤ length flushed + most_after → StandsFor rig way.replay
+    → now.heard ≡ told_notes way.replay.notes before.heard → now.steps ≤ before.steps + way.replay.cost
+    → now.steps ≤ before.steps + way.replay.box_cost
     → EndsFlat start before now rig (WriteFailed number)
 lacks_records start before now rig way flushed number bytes follows says breaks few stands heard cost box_cost =
     let is = breaks.is in
@@ -106,7 +106,7 @@ lacks_records start before now rig way flushed number bytes follows says breaks 
         earlier = is.earlier;
         event = is.event;
         later = is.later;
-        tale = is.tale;
+        replay = is.replay;
         flat = is.flat;
         are = is.are;
         follows = is.follows;

@@ -5,37 +5,37 @@ use Rattle.gathered_out.specs.Puts.{BreaksPut, Holding, IsPut}
 use Rattle.gpu_capture.specs.Capture.{limit}
 use Rattle.gpu_capture.specs.Written.{AllowsAll}
 use Rattle.gpu_capture.specs.declared.event.Event.{Event}
-use Rattle.event_play.specs.Ends.{FaultsEvent, coming}
-use Rattle.event_play.specs.Replay.{Tale, next_number}
+use Rattle.event_play.specs.Ends.{FaultsEvent, next_event}
+use Rattle.event_play.specs.Replay.{Replay, next_number}
 use Rattle.event_play.specs.RigState.{RigState, Stands, StandsFor}
 use Rattle.event_play.specs.Step.{Machine, Stepped, event_step, stepped, done}
 use Rattle.event_play.specs.Stepping.{HasStepped, numbered}
 use Rattle.event_play.specs.Streams.{Outlets, without_sink}
-use Rattle.event_play.specs.Work.{work_of}
+use Rattle.event_play.specs.Operation.{operation_of}
 use Rattle.event_play.specs.declared.fault.EventFault.{EventFault}
-use Rattle.event_play.specs.declared.work.Work.{Work}
-use Rattle.event_play.specs.declared.work.Work.TheVariants as work
-use Rattle.capture_flat.specs.Flat.{flat_events, flat_work, flat_asked}
+use Rattle.event_play.specs.declared.operation.Operation.{Operation}
+use Rattle.event_play.specs.declared.operation.Operation.TheVariants as operation
+use Rattle.capture_flat.specs.Flat.{flat_events, flat_operation, flat_asked}
 use Rattle.capture_flat.specs.Out.{head_due, due_at}
 use Rattle.gpu_capture.specs.Written.{spell}
 use Rattle.capture_flat.specs.OneEvent.{PlaysFlat}
-use Rattle.event_play.specs.Setting.{setting}
+use Rattle.event_play.specs.PlayState.{play_state}
 
 -- what an event asks of the machine, computed from a rig that agrees with it
-asks : (rig : RigState) (s : Machine) (event : Event) (asked : Result Work EventFault) → Stands rig s
-    → asked ≡ work_of rig.ram rig.running event
-    → work_of s.ram s.running event ≡ asked
+asks : (rig : RigState) (s : Machine) (event : Event) (asked : Result Operation EventFault) → Stands rig s
+    → asked ≡ operation_of rig.ram rig.running event
+    → operation_of s.ram s.running event ≡ asked
 asks rig s event asked stands is = rw (stands.ram, stands.running) (sym is)
 
-step_is : (s : Machine) (number : ℕ) (event : Event) (asked : Result Work EventFault)
-    → work_of s.ram s.running event ≡ asked
+step_is : (s : Machine) (number : ℕ) (event : Event) (asked : Result Operation EventFault)
+    → operation_of s.ram s.running event ≡ asked
     → event_step s number event ≡ stepped s number asked
 unfolding event_step
 step_is s number event asked is = ap (stepped s number) is
 
-pub faults_event : (t : Tale) (rig now : RigState) (event : Event) (fault : EventFault) (at : Outlets)
-    → now ≡ rig → StandsFor rig t → Err fault ≡ work_of rig.ram rig.running event
-    → FaultsEvent (coming t event) fault (setting at rig) (setting at now)
+pub faults_event : (t : Replay) (rig now : RigState) (event : Event) (fault : EventFault) (at : Outlets)
+    → now ≡ rig → StandsFor rig t → Err fault ≡ operation_of rig.ram rig.running event
+    → FaultsEvent (next_event t event) fault (play_state at rig) (play_state at now)
 faults_event t rig now event fault at same stands is = record {
   is = step_is t.state (next_number t.played) event (Err fault) (asks rig t.state event (Err fault) stands.state is);
   stands = same;
@@ -43,30 +43,31 @@ faults_event t rig now event fault at same stands is = record {
 }
 
 -- A rig still agrees with the replay after it was asked for an event's operation.
-pub stands_same : (t : Tale) (rig mid : RigState) → mid ≡ rig → StandsFor rig t → StandsFor mid t
+pub stands_same : (t : Replay) (rig mid : RigState) → mid ≡ rig → StandsFor rig t → StandsFor mid t
 stands_same t rig mid same stands = rw same stands
 
 -- Main memory after an operation gives the same flat events.
-same_flat : (s : Machine) (number : ℕ) (asked : Work)
-    → flat_work (done s number asked).machine.ram asked ≡ flat_work s.ram asked
-same_flat s number work.Nothing = refl
-same_flat s number (work.Put address word) = refl
-same_flat s number (work.Feed asked next) = refl
-same_flat s number (work.Take block next) = refl
-same_flat s number (work.Control word) = refl
-same_flat s number work.Read = refl
-same_flat s number work.Skip = refl
-same_flat s number work.Stat = refl
-same_flat s number (work.Clear madr n) = refl
-same_flat s number (work.Begin next) = refl
+same_flat : (s : Machine) (number : ℕ) (asked : Operation)
+    → flat_operation (done s number asked).machine.ram asked ≡ flat_operation s.ram asked
+same_flat s number operation.Nothing = refl
+same_flat s number (operation.Put address word) = refl
+same_flat s number (operation.Feed asked next) = refl
+same_flat s number (operation.Take block next) = refl
+same_flat s number (operation.Control word) = refl
+same_flat s number operation.Read = refl
+same_flat s number operation.Skip = refl
+same_flat s number operation.Stat = refl
+same_flat s number (operation.Clear madr n) = refl
+same_flat s number (operation.Begin next) = refl
 
 -- the flat events of an event, from main memory after it
-flat_is : (t : Tale) (rig now : RigState) (event : Event) (asked : Work) (shown : Option ℕ) (before behind : Outlets)
-    → StandsFor rig t → Ok asked ≡ work_of rig.ram rig.running event
-    → HasStepped t.state (numbered (next_number t.played) event) shown before (setting behind now)
-    → flat_work now.ram asked ≡ flat_events t.state event
+flat_is : (t : Replay) (rig now : RigState) (event : Event) (asked : Operation) (shown : Option ℕ)
+    (before following : Outlets)
+    → StandsFor rig t → Ok asked ≡ operation_of rig.ram rig.running event
+    → HasStepped t.state (numbered (next_number t.played) event) shown before (play_state following now)
+    → flat_operation now.ram asked ≡ flat_events t.state event
 unfolding flat_events
-flat_is t rig now event asked shown before behind stands is step =
+flat_is t rig now event asked shown before following stands is step =
     let s = t.state in
     let number = next_number t.played in
     let asks = asks rig s event (Ok asked) stands.state is in
@@ -76,18 +77,18 @@ flat_is t rig now event asked shown before behind stands is step =
     let machine : step.machine ≡ (done s number asked).machine = ap (λ (x : Stepped). x.machine)
     (let same : after ≡ done s number asked = cc in same) in
     let ram : now.ram ≡ (done s number asked).machine.ram = sym step.stands.ram ∙ ap (λ (m : Machine). m.ram) machine in
-    ap (λ ram. flat_work ram asked) ram ∙ same_flat s number asked ∙ ap (flat_asked s.ram) (sym asks)
+    ap (λ ram. flat_operation ram asked) ram ∙ same_flat s number asked ∙ ap (flat_asked s.ram) (sym asks)
 
-pub plays_flat : (t : Tale) (rig mid now : RigState) (event : Event) (asked : Work) (shown : Option ℕ)
-    (before behind : Outlets)
-    (ram : List ℕ) → StandsFor rig t → mid ≡ rig → Ok asked ≡ work_of rig.ram rig.running event
+pub plays_flat : (t : Replay) (rig mid now : RigState) (event : Event) (asked : Operation) (shown : Option ℕ)
+    (before following : Outlets)
+    (ram : List ℕ) → StandsFor rig t → mid ≡ rig → Ok asked ≡ operation_of rig.ram rig.running event
     → HasStepped t.state (numbered (next_number mid.played) event) shown
-    (without_sink before.heard before.steps) (setting (without_sink behind.heard behind.steps) now)
-    → now.played ≡ next_number mid.played → ram ≡ now.ram → AllowsAll 2 (flat_work ram asked)
-    → PlaysFlat t event before behind now
-plays_flat t rig mid now event asked shown before behind ram stands same is step played after allows =
+    (without_sink before.heard before.steps) (play_state (without_sink following.heard following.steps) now)
+    → now.played ≡ next_number mid.played → ram ≡ now.ram → AllowsAll 2 (flat_operation ram asked)
+    → PlaysFlat t event before following now
+plays_flat t rig mid now event asked shown before following ram stands same is step played after allows =
     let counted : mid.played ≡ t.played = ap (λ (r : RigState). r.played) same ∙ sym stands.played in
-    let stepped : HasStepped t.state (numbered (next_number t.played) event) shown before (setting behind now) =
+    let stepped : HasStepped t.state (numbered (next_number t.played) event) shown before (play_state following now) =
     record {
       machine = step.machine;
       notes = step.notes;
@@ -96,7 +97,7 @@ plays_flat t rig mid now event asked shown before behind ram stands same is step
       heard = step.heard;
       cost = step.cost;
     } in
-    let flat = flat_is t rig now event asked shown before behind stands is stepped in
+    let flat = flat_is t rig now event asked shown before following stands is stepped in
     record {
       shown = shown;
       step = stepped;
@@ -105,15 +106,16 @@ plays_flat t rig mid now event asked shown before behind ram stands same is step
     }
 
 -- the output of an event, from the values that the code has
-pub due_known : (version : ℕ) (t : Tale) (rig now : RigState) (event : Event) (asked : Work) (before behind : Outlets)
-    (played : ℕ) (ram : List ℕ) → StandsFor rig t → Ok asked ≡ work_of rig.ram rig.running event
-    → PlaysFlat t event before behind now → played ≡ rig.played → ram ≡ now.ram
-    → head_due version played ++ spell (flat_work ram asked) ≡ due_at version t event
-due_known version t rig now event asked before behind played ram stands is plays was after =
-    let flat = flat_is t rig now event asked plays.shown before behind stands is plays.step in
+pub due_known : (version : ℕ) (t : Replay) (rig now : RigState) (event : Event) (asked : Operation)
+    (before following : Outlets)
+    (played : ℕ) (ram : List ℕ) → StandsFor rig t → Ok asked ≡ operation_of rig.ram rig.running event
+    → PlaysFlat t event before following now → played ≡ rig.played → ram ≡ now.ram
+    → head_due version played ++ spell (flat_operation ram asked) ≡ due_at version t event
+due_known version t rig now event asked before following played ram stands is plays was after =
+    let flat = flat_is t rig now event asked plays.shown before following stands is plays.step in
     rw (was, after, flat, ← stands.played) refl
 
-pub number_is : (t : Tale) (rig : RigState) (played number : ℕ) → StandsFor rig t → played ≡ rig.played
+pub number_is : (t : Replay) (rig : RigState) (played number : ℕ) → StandsFor rig t → played ≡ rig.played
     → number ≡ next_number played → number ≡ next_number t.played
 number_is t rig played number stands was is = is ∙ ap next_number (was ∙ sym stands.played)
 

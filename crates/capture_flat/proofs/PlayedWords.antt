@@ -4,7 +4,7 @@ use Rattle.std.proofs.Common.{sym, subst, ◌∙◌, append_assoc, append-nil, o
 use Rattle.std.proofs.Common.{length-append}
 use Rattle.gathered_out.specs.Pieces.{Piece, piece}
 use Rattle.gathered_out.specs.Puts.{ArePieces, IsPut, holding}
-use Rattle.gathered_out.proofs.Gathers.{Gathers, gathers_on}
+use Rattle.gathered_out.proofs.Buffers.{Buffers, buffers_on}
 use Rattle.gpu_capture.specs.Capture.{capture, limit}
 use Rattle.gpu_capture.specs.Reading.{AreNeeded}
 use Rattle.gpu_capture.specs.Words.{word_events}
@@ -14,7 +14,7 @@ use Rattle.gpu_capture.specs.declared.event.Event.TheVariants.{Gp0}
 use Rattle.gpu_core.specs.Machine.{gp0_note}
 use Rattle.gpu_core.proofs.BoxCosts.{gp0_cost-small}
 use Rattle.event_play.specs.PlayedWords.{after_word, after_words}
-use Rattle.event_play.specs.Replay.{Tale, from_state, next_number}
+use Rattle.event_play.specs.Replay.{Replay, from_state, next_number}
 use Rattle.event_play.specs.Step.{Machine}
 use Rattle.event_play.proofs.AtOnce.{word_is}
 use Rattle.event_play.proofs.Following.{needed_on}
@@ -31,21 +31,21 @@ use Rattle.capture_flat.proofs.Output.{begun_on, written_length}
 -- ---- the replay after them
 
 -- the same machine after as many events, with nothing else recorded
-abbrev untold : Tale → Tale
+abbrev untold : Replay → Replay
 untold t = from_state t.state t.played
 
 -- The words lead to the same machine, whatever was recorded before.
-pub same_state : (t : Tale) (words : List ℕ) → (after_words t words).state ≡ (after_words (untold t) words).state
+pub same_state : (t : Replay) (words : List ℕ) → (after_words t words).state ≡ (after_words (untold t) words).state
 same_state t [] = refl
 same_state t (word ∷ words) =
     same_state (after_word t word) words ∙ sym (same_state (after_word (untold t) word) words)
 
-pub same_played : (t : Tale) (words : List ℕ) → (after_words t words).played ≡ (after_words (untold t) words).played
+pub same_played : (t : Replay) (words : List ℕ) → (after_words t words).played ≡ (after_words (untold t) words).played
 same_played t [] = refl
 same_played t (word ∷ words) =
     same_played (after_word t word) words ∙ sym (same_played (after_word (untold t) word) words)
 
-pub more_notes : (t : Tale) (words : List ℕ)
+pub more_notes : (t : Replay) (words : List ℕ)
     → (after_words t words).notes ≡ t.notes ++ (after_words (untold t) words).notes
 more_notes t [] = sym (append-nil t.notes)
 more_notes t (word ∷ words) =
@@ -54,7 +54,7 @@ more_notes t (word ∷ words) =
     ∙ append_assoc t.notes note (after_words (untold (after_word t word)) words).notes
     ∙ ap (λ notes. t.notes ++ notes) (sym (more_notes (after_word (untold t) word) words))
 
-pub more_cost : (t : Tale) (words : List ℕ)
+pub more_cost : (t : Replay) (words : List ℕ)
     → (after_words t words).cost ≡ t.cost + (after_words (untold t) words).cost
 more_cost t [] = omega arith
 more_cost t (word ∷ words) =
@@ -62,7 +62,7 @@ more_cost t (word ∷ words) =
     let none = more_cost (after_word (untold t) word) words in
     omega (arith, one, none)
 
-pub words_small : (t : Tale) (words : List ℕ) → t.cost ≤ t.box_cost
+pub words_small : (t : Replay) (words : List ℕ) → t.cost ≤ t.box_cost
     → (after_words t words).cost ≤ (after_words t words).box_cost
 words_small t [] small = small
 words_small t (word ∷ words) small =
@@ -76,7 +76,7 @@ unfolding flat_events
 word_flat s word = refl
 
 -- one more event
-word_follows : (first t : Tale) (events flat : List Event) (word : ℕ) → Follows first events t flat
+word_follows : (first t : Replay) (events flat : List Event) (word : ℕ) → Follows first events t flat
     → AllowsAll 2 (Gp0 word ∷ [])
     → Follows first (events ++ Gp0 word ∷ []) (after_word t word) (flat ++ Gp0 word ∷ [])
 word_follows first t events flat word follows allows =
@@ -87,7 +87,7 @@ word_follows first t events flat word follows allows =
     (follows_on first t (after_word t word) events flat (Gp0 word) follows (word_is t word) refl
     (subst Q (sym is) allows))
 
-pub words_follow : (first t : Tale) (events flat : List Event) (words : List ℕ) → Follows first events t flat
+pub words_follow : (first t : Replay) (events flat : List Event) (words : List ℕ) → Follows first events t flat
     → AllowsAll 2 (word_events words)
     → Follows first (events ++ word_events words) (after_words t words) (flat ++ word_events words)
 words_follow first t events flat [] follows allows = rw (append-nil events, append-nil flat) follows
@@ -101,13 +101,13 @@ words_follow first t events flat (word ∷ words) follows allows =
 -- ---- their records
 
 -- After the first event, the output of a word is its record alone.
-word_due : (version : ℕ) (t : Tale) (word : ℕ) → 1 ≤ t.played → due_at version t (Gp0 word) ≡ spell (Gp0 word ∷ [])
+word_due : (version : ℕ) (t : Replay) (word : ℕ) → 1 ≤ t.played → due_at version t (Gp0 word) ≡ spell (Gp0 word ∷ [])
 word_due version t word some =
     let counted : (t.played == 0) ≡ false = grind (arith, some) in
     rw (word_flat t.state word, counted) refl
 
 -- the output up to and including the word's record
-begun_word : (version : ℕ) (t : Tale) (flat : List Event) (word : ℕ) → 1 ≤ t.played → (t.played ≡ 0 → flat ≡ [])
+begun_word : (version : ℕ) (t : Replay) (flat : List Event) (word : ℕ) → 1 ≤ t.played → (t.played ≡ 0 → flat ≡ [])
     → begun version (next_number t.played) (flat ++ Gp0 word ∷ [])
     ≡ begun version t.played flat ++ due_at version t (Gp0 word)
 begun_word version t flat word some fresh =
@@ -121,21 +121,21 @@ one_piece : (number word : ℕ) → ArePieces number (spell (Gp0 word ∷ [])) (
 one_piece number word = record { numbers = (refl, tt); bytes_are = refl }
 
 -- Pieces that were added to the buffer count as put.
-put_gathered : (number : ℕ) (bytes : List ℕ) (held : Option (List ℕ)) (gathered parts : List Piece)
+put_buffered : (number : ℕ) (bytes : List ℕ) (held : Option (List ℕ)) (buffered parts : List Piece)
     → ArePieces number bytes parts
-    → IsPut (piece number bytes) (holding held gathered) (holding held (gathered ++ parts))
-put_gathered number bytes held gathered parts are = record {
+    → IsPut (piece number bytes) (holding held buffered) (holding held (buffered ++ parts))
+put_buffered number bytes held buffered parts are = record {
   parts = parts;
   are = are;
   out = λ base pieces out. record {
     written = out.written;
-    are = ap (λ ps. ps ++ parts) out.are ∙ append_assoc out.written gathered parts;
+    are = ap (λ ps. ps ++ parts) out.are ∙ append_assoc out.written buffered parts;
     stands = out.stands;
   };
 }
 
 -- the length of the output with the records of the words: 8 bytes more per word
-pub words_length : (version : ℕ) (t : Tale) (flat : List Event) (words : List ℕ) → 1 ≤ t.played
+pub words_length : (version : ℕ) (t : Replay) (flat : List Event) (words : List ℕ) → 1 ≤ t.played
     → length (begun version (after_words t words).played (flat ++ word_events words))
     ≡ length (begun version t.played flat) + 8 * length words
 words_length version t flat [] some = rw (append-nil flat) (omega arith)
@@ -147,8 +147,8 @@ words_length version t flat (word ∷ words) some =
     let eight = words_bytes (word ∷ []) in
     rw (← append_assoc flat (Gp0 word ∷ []) (word_events words)) (omega (arith, e, one, both, due, eight))
 
-module _ (first : Tale) (version : ℕ) (flushed behind further taken : List ℕ) (base held : Option (List ℕ))
-    (taken_is : taken ≡ (flushed ++ behind) ++ further) where
+module _ (first : Replay) (version : ℕ) (flushed after further taken : List ℕ) (base held : Option (List ℕ))
+    (taken_is : taken ≡ (flushed ++ after) ++ further) where
   -- the same with more events
   due_on : (events more : List Event) (number : ℕ) (was due : List ℕ)
       → WasDue first version events flushed taken number was due
@@ -159,7 +159,7 @@ module _ (first : Tale) (version : ℕ) (flushed behind further taken : List ℕ
       (due_more first version events more (events ++ more) flushed taken [] refl number was due is)
 
   -- With the record of one more word, the whole file is not too long.
-  word_fits : (t : Tale) (events flat : List Event) (word : ℕ) → Follows first events t flat
+  word_fits : (t : Replay) (events flat : List Event) (word : ℕ) → Follows first events t flat
       → AllowsAll 2 (Gp0 word ∷ []) → 1 ≤ t.played → length (begun version t.played flat) + 12 ≤ limit
       → length (flat_file first version (events ++ Gp0 word ∷ [])) ≤ limit
   word_fits t events flat word follows allows some room =
@@ -174,16 +174,16 @@ module _ (first : Tale) (version : ℕ) (flushed behind further taken : List ℕ
       rw all (omega (arith, whole, one, both, due, eight, room))
 
   -- The events before a word need no byte of the words.
-  was_due : (t : Tale) (events flat : List Event) (word : ℕ) → Follows first events t flat
+  was_due : (t : Replay) (events flat : List Event) (word : ℕ) → Follows first events t flat
       → AllowsAll 2 (Gp0 word ∷ []) → 1 ≤ t.played → length (begun version t.played flat) + 12 ≤ limit
-      → AreNeeded capture events (flushed ++ behind)
+      → AreNeeded capture events (flushed ++ after)
       → WasDue first version (events ++ Gp0 word ∷ []) flushed taken (next_number t.played)
       (begun version t.played flat) (spell (Gp0 word ∷ []))
   was_due t events flat word follows allows some room needed = record {
     earlier = events;
     event = Gp0 word;
     later = [];
-    tale = t;
+    replay = t;
     flat = flat;
     are = refl;
     follows = follows;
@@ -191,58 +191,58 @@ module _ (first : Tale) (version : ℕ) (flushed behind further taken : List ℕ
     was_is = refl;
     due_is = sym (word_due version t word some);
     fits = word_fits t events flat word follows allows some room;
-    between = behind;
+    between = after;
     rest = further;
     taken_is = taken_is;
-    needed = needed_on capture events (Gp0 word ∷ []) (flushed ++ behind) needed;
+    needed = needed_on capture events (Gp0 word ∷ []) (flushed ++ after) needed;
   }
 
   -- the record of one word is buffered
-  word_gathered : (word : ℕ) (t : Tale) (events flat : List Event) (gathered : List Piece)
+  word_buffered : (word : ℕ) (t : Replay) (events flat : List Event) (buffered : List Piece)
       → Follows first events t flat → AllowsAll 2 (Gp0 word ∷ []) → 1 ≤ t.played
-      → length (begun version t.played flat) + 12 ≤ limit → AreNeeded capture events (flushed ++ behind)
-      → Gathers (WasDue first version events flushed taken) base (begun version t.played flat) held gathered
-      → Gathers (WasDue first version (events ++ Gp0 word ∷ []) flushed taken) base
+      → length (begun version t.played flat) + 12 ≤ limit → AreNeeded capture events (flushed ++ after)
+      → Buffers (WasDue first version events flushed taken) base (begun version t.played flat) held buffered
+      → Buffers (WasDue first version (events ++ Gp0 word ∷ []) flushed taken) base
       (begun version (next_number t.played) (flat ++ Gp0 word ∷ [])) held
-      (gathered ++ piece (next_number t.played) (spelled (Gp0 word)) ∷ [])
-  word_gathered word t events flat gathered follows allows some room needed so_far =
+      (buffered ++ piece (next_number t.played) (spelled (Gp0 word)) ∷ [])
+  word_buffered word t events flat buffered follows allows some room needed so_far =
       let n = next_number t.played in
       let ps = piece n (spelled (Gp0 word)) ∷ [] in
       let due = spell (Gp0 word ∷ []) in
       let P : List ℕ → Type 0 = λ all.
-      Gathers (WasDue first version (events ++ Gp0 word ∷ []) flushed taken) base all held (gathered ++ ps) in
+      Buffers (WasDue first version (events ++ Gp0 word ∷ []) flushed taken) base all held (buffered ++ ps) in
       subst P
       (sym (begun_word version t flat word some follows.fresh
       ∙ ap (λ bs. begun version t.played flat ++ bs) (word_due version t word some)))
-      (gathers_on (WasDue first version events flushed taken)
-      (WasDue first version (events ++ Gp0 word ∷ []) flushed taken) base (begun version t.played flat) held gathered
+      (buffers_on (WasDue first version events flushed taken)
+      (WasDue first version (events ++ Gp0 word ∷ []) flushed taken) base (begun version t.played flat) held buffered
       so_far (due_on events (Gp0 word ∷ [])) n due
       (was_due t events flat word follows allows some room needed)
-      held (gathered ++ ps) (put_gathered n due held gathered ps (one_piece n word)))
+      held (buffered ++ ps) (put_buffered n due held buffered ps (one_piece n word)))
 
   -- the records of all words are buffered
-  pub words_gathered : (words : List ℕ) (t : Tale) (events flat : List Event) (gathered : List Piece)
+  pub words_buffered : (words : List ℕ) (t : Replay) (events flat : List Event) (buffered : List Piece)
       → Follows first events t flat → AllowsAll 2 (word_events words) → 1 ≤ t.played
       → length (begun version t.played flat) + 8 * length words + 4 ≤ limit
-      → AreNeeded capture events (flushed ++ behind)
-      → Gathers (WasDue first version events flushed taken) base (begun version t.played flat) held gathered
-      → Gathers (WasDue first version (events ++ word_events words) flushed taken) base
+      → AreNeeded capture events (flushed ++ after)
+      → Buffers (WasDue first version events flushed taken) base (begun version t.played flat) held buffered
+      → Buffers (WasDue first version (events ++ word_events words) flushed taken) base
       (begun version (after_words t words).played (flat ++ word_events words)) held
-      (gathered ++ record_pieces t.played words)
-  words_gathered [] t events flat gathered follows allows some room needed so_far =
-      rw (append-nil events, append-nil flat, append-nil gathered) so_far
-  words_gathered (word ∷ words) t events flat gathered follows allows some room needed so_far =
+      (buffered ++ record_pieces t.played words)
+  words_buffered [] t events flat buffered follows allows some room needed so_far =
+      rw (append-nil events, append-nil flat, append-nil buffered) so_far
+  words_buffered (word ∷ words) t events flat buffered follows allows some room needed so_far =
       let n = next_number t.played in
       let ps = piece n (spelled (Gp0 word)) ∷ [] in
-      let one = word_gathered word t events flat gathered follows (allows.0, tt) some (omega (arith, room)) needed
+      let one = word_buffered word t events flat buffered follows (allows.0, tt) some (omega (arith, room)) needed
       so_far in
       let longer = words_length version t flat (word ∷ []) some in
       rw (
         ← append_assoc events (Gp0 word ∷ []) (word_events words),
         ← append_assoc flat (Gp0 word ∷ []) (word_events words),
-        ← append_assoc gathered ps (record_pieces n words),
+        ← append_assoc buffered ps (record_pieces n words),
       )
-      (words_gathered words (after_word t word) (events ++ Gp0 word ∷ []) (flat ++ Gp0 word ∷ []) (gathered ++ ps)
+      (words_buffered words (after_word t word) (events ++ Gp0 word ∷ []) (flat ++ Gp0 word ∷ []) (buffered ++ ps)
       (word_follows first t events flat word follows (allows.0, tt)) allows.1 (omega (arith, some))
       (omega (arith, room, longer))
-      (needed_on capture events (Gp0 word ∷ []) (flushed ++ behind) needed) one)
+      (needed_on capture events (Gp0 word ∷ []) (flushed ++ after) needed) one)

@@ -31,14 +31,14 @@ fails_more before now ps qs all lacking are fails =
     record {
       ok = tt;
       failed = rw are
-          (subst P (append_assoc before.gathered ps qs)
-          (breaks_more before.held now.held (before.gathered ++ ps) qs lacking fails.failed));
+          (subst P (append_assoc before.buffered ps qs)
+          (breaks_more before.held now.held (before.buffered ++ ps) qs lacking fails.failed));
     }
 
 -- one more was added
 pub put_more : (before mid now : Holding) (done : List Piece) (p : Piece) → ArePut done before mid
-    → ((base : Option (List ℕ)) (all : List Piece) → AreOut base all mid.held mid.gathered
-    → AreOut base (all ++ p ∷ []) now.held now.gathered)
+    → ((base : Option (List ℕ)) (all : List Piece) → AreOut base all mid.held mid.buffered
+    → AreOut base (all ++ p ∷ []) now.held now.buffered)
     → ArePut (done ++ p ∷ []) before now
 put_more before mid now done p was puts =
     let put : Result ℕ ℕ = Ok 0 in

@@ -10,10 +10,10 @@ use Rattle.event_play.specs.Frames.{Frame}
 use Rattle.event_play.specs.Out.{out_bytes}
 use Rattle.event_play.specs.Replay.{Played, from_state}
 use Rattle.event_play.specs.Step.{Machine}
-use Rattle.event_play.specs.Strokes.{Stroke}
+use Rattle.event_play.specs.Changes.{Change}
 use Rattle.event_play.specs.declared.ending.Ending.TheVariants.{Done}
 use Rattle.event_play.specs.declared.ending.Mode.TheVariants.{Frames}
-use Rattle.event_play.specs.declared.ending.Moment.{Moment}
+use Rattle.event_play.specs.declared.ending.FrameTrigger.{FrameTrigger}
 use Rattle.capture_flat.specs.Flat.{flat_replay}
 
 -- a frame without the number of its event
@@ -25,16 +25,16 @@ abbrev pub unnumbered : Option Note → Option Note
 unnumbered None = None
 unnumbered (Some note) = Some (record note { event = 0 })
 
-abbrev pub bare_stroke : Stroke → Stroke
-bare_stroke stroke = record { note = unnumbered stroke.note; before = stroke.before; after = stroke.after }
+abbrev pub bare_change : Change → Change
+bare_change change = record { note = unnumbered change.note; before = change.before; after = change.after }
 
 -- Two replays write the same pictures, at flips and at marks. Except for event numbers, they have the same frames, and
 -- their items change the same cells in the same way.
 pub record ShowAlike (a b : Played) : Type 0 where
-  pub pictures : (at : Moment) (heard other : List Reading)
+  pub pictures : (at : FrameTrigger) (heard other : List Reading)
       → out_bytes (Frames at) heard a ≡ out_bytes (Frames at) other b
-  pub frames : map bare_frame a.tale.frames ≡ map bare_frame b.tale.frames
-  pub strokes : map bare_stroke a.tale.strokes ≡ map bare_stroke b.tale.strokes
+  pub frames : map bare_frame a.replay.frames ≡ map bare_frame b.replay.frames
+  pub changes : map bare_change a.replay.changes ≡ map bare_change b.replay.changes
 
 -- From every machine, of either height: if events have no fault, their flat events keep the film and the history of
 -- every cell.

@@ -12,4 +12,4 @@ use Rattle.capture_flat.specs.Flat.{flat_replay}
 abbrev pub FlatReplaysAlike : Type 0
 FlatReplaysAlike = (s : Machine) (events : List Event) → (replay_of s events).ending ≡ Done
     → ((replay_of s (flat_replay (from_state s 0) events)).ending ≡ Done)
-    × AreAlike (replay_of s (flat_replay (from_state s 0) events)).tale (replay_of s events).tale
+    × AreAlike (replay_of s (flat_replay (from_state s 0) events)).replay (replay_of s events).replay

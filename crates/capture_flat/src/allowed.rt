@@ -3,28 +3,28 @@ ghost use Rattle.std.specs.Prelude.{◌<◌, ◌^◌, ℕ, map, slice_index};
 ghost use Rattle.gpu_capture.specs.Written.{AllowsAll};
 ghost use Rattle.gpu_capture.specs.declared.event.Event.TheVariants.{Gp0};
 ghost use Rattle.event_play.specs.Step.{words_of};
-ghost use Rattle.capture_flat.specs.Flat.{flat_work};
+ghost use Rattle.capture_flat.specs.Flat.{flat_operation};
 
-use event_play::{Words, Work};
+use event_play::{Operation, Words};
 use ot_clear_dma::Ram;
 
 /// Proves that the flat events of an operation are valid in version 2. Does nothing.
-pub(crate) fn allowed(ram: &Ram, work: Work)
-    ensures { AllowsAll 2 (flat_work ram.now work) }
+pub(crate) fn allowed(ram: &Ram, operation: Operation)
+    ensures { AllowsAll 2 (flat_operation ram.now operation) }
 {
-    match work {
-        Work::Feed { words, .. } => words_allowed(ram, words),
-        Work::Take { .. } => {}
-        Work::Control { word } => {
+    match operation {
+        Operation::Feed { words, .. } => words_allowed(ram, words),
+        Operation::Take { .. } => {}
+        Operation::Control { word } => {
             let _ = word;
         }
-        Work::Read => {}
-        Work::Skip => {}
-        Work::Stat => {}
-        Work::Nothing => {}
-        Work::Put { .. } => {}
-        Work::Clear { .. } => {}
-        Work::Begin { .. } => {}
+        Operation::Read => {}
+        Operation::Skip => {}
+        Operation::Stat => {}
+        Operation::Nothing => {}
+        Operation::Put { .. } => {}
+        Operation::Clear { .. } => {}
+        Operation::Begin { .. } => {}
     }
 }
 

@@ -17,7 +17,7 @@ use crate::allowed::slice_allowed;
 use crate::file::{Draft, LIMIT};
 use dev_io::{Sink, Source};
 use event_play::Rig;
-use gathered_out::Gathered;
+use gathered_out::OutputBuffer;
 use gpu_capture::{EventReader, word_record};
 use gpu_taps::Listener;
 use std::sync::ledger::Ledger;
@@ -33,11 +33,11 @@ pub(crate) fn words_at_once<S: Source>(
     size: u32,
 ) -> usize
     requires { size + 4 ≤ 2 ^ 30 }
-    ensures near { reader.now.progress.place < since + 4096 → reader.now.progress.place + 4 * result < since + 4096 }
+    ensures near { reader.now.progress.offset < since + 4096 → reader.now.progress.offset + 4 * result < since + 4096 }
     ensures fits { size + 8 * result + 4 ≤ 2 ^ 30 }
     ensures waits { 4 * result ≤ S.at_hand source.now }
 {
-    let near = since.saturating_add(4095).saturating_sub(reader.place()) / 4;
+    let near = since.saturating_add(4095).saturating_sub(reader.offset()) / 4;
     let fitting = (LIMIT - 4 - size) / 8;
     let due = reader.words_left().min(near).min(fitting);
     (source.ready() / 4).min(due as usize)
@@ -62,7 +62,7 @@ pub(crate) fn pass_words<K: Sink, T: Listener, L: Ledger>(
         (without_sink (map T.heard taps.new.items) steps.new) rig.new }
     ensures allowed { AllowsAll 2 (word_events words.now) }
     ensures puts { PutsPieces (record_pieces rig.old.played words.now)
-        (holding (K.held out.old) draft.old.gathered) (holding (K.held out.new) draft.new.gathered) result }
+        (holding (K.held out.old) draft.old.buffered) (holding (K.held out.new) draft.new.buffered) result }
     ensures file { draft.new.file ≡ longer draft.old.file (8 * length words.now) }
     ensures cause { OnErr result (Rose (K.faults out.old) (K.faults out.new)) }
     ensures faults { K.faults out.old ≤ K.faults out.new }
@@ -71,7 +71,7 @@ pub(crate) fn pass_words<K: Sink, T: Listener, L: Ledger>(
     let played = rig.played();
     rig.take_words(words, taps, steps);
     draft.file.size += 8 * words.len() as u32;
-    put_words(played, words, &mut draft.gathered, out)
+    put_words(played, words, &mut draft.buffered, out)
 }
 
 // Adds the records of words to the buffer, one event per word, numbered from `played + 1`. On failure, returns the
@@ -79,18 +79,18 @@ pub(crate) fn pass_words<K: Sink, T: Listener, L: Ledger>(
 fn put_words<K: Sink>(
     played: u64,
     words: &[u32],
-    gathered: &mut Gathered,
+    buffered: &mut OutputBuffer,
     out: &mut K,
 ) -> Result<(), u64>
     ensures puts { PutsPieces (record_pieces played words.now)
-        (holding (K.held out.old) gathered.old) (holding (K.held out.new) gathered.new) result }
+        (holding (K.held out.old) buffered.old) (holding (K.held out.new) buffered.new) result }
     ensures cause { OnErr result (Rose (K.faults out.old) (K.faults out.new)) }
     ensures faults { K.faults out.old ≤ K.faults out.new }
 {
     let mut number = played;
     for word in words {
         number = number.saturating_add(1);
-        if let Err(lacking) = gathered.put(number, &word_record(*word), out) {
+        if let Err(lacking) = buffered.put(number, &word_record(*word), out) {
             return Err(lacking);
         }
     }

@@ -4,32 +4,32 @@ ghost use Rattle.list_dma.specs.Node.{node_words};
 ghost use Rattle.list_dma.specs.Walk.{chain, list_words};
 ghost use Rattle.ot_clear_dma.specs.Ram.{memory_words};
 ghost use Rattle.event_play.specs.Step.{words_of};
-ghost use Rattle.event_play.specs.Work.{AreWords, IsWork};
-ghost use Rattle.capture_flat.specs.Flat.{flat_work};
+ghost use Rattle.event_play.specs.Operation.{AreWords, IsOperation};
+ghost use Rattle.capture_flat.specs.Flat.{flat_operation};
 ghost use Rattle.gpu_capture.specs.Written.{spell};
 
-use event_play::{Words, Work};
+use event_play::{Operation, Words};
 use list_dma::{WALK_LIMIT, next_node, node_at};
 use ot_clear_dma::Ram;
 
 /// Returns the number of bytes of the records of an operation. `ram`: main memory.
 #[tactic(auto, using(crate::proofs::Counts::words_bytes, crate::proofs::Counts::skips_bytes))]
-pub(crate) fn count_work(ram: &Ram, work: Work) -> u32
-    requires { IsWork work }
-    ensures value { result ≡ length (spell (flat_work ram.now work)) }
+pub(crate) fn count_operation(ram: &Ram, operation: Operation) -> u32
+    requires { IsOperation operation }
+    ensures value { result ≡ length (spell (flat_operation ram.now operation)) }
     ensures few { result ≤ 2 ^ 31 }
 {
-    match work {
-        Work::Feed { words, .. } => 8 * count_words(ram, words),
-        Work::Take { block, .. } => 4 * block.n,
-        Work::Control { .. } => 8,
-        Work::Read => 4,
-        Work::Skip => 4,
-        Work::Stat => 4,
-        Work::Nothing => 0,
-        Work::Put { .. } => 0,
-        Work::Clear { .. } => 0,
-        Work::Begin { .. } => 0,
+    match operation {
+        Operation::Feed { words, .. } => 8 * count_words(ram, words),
+        Operation::Take { block, .. } => 4 * block.n,
+        Operation::Control { .. } => 8,
+        Operation::Read => 4,
+        Operation::Skip => 4,
+        Operation::Stat => 4,
+        Operation::Nothing => 0,
+        Operation::Put { .. } => 0,
+        Operation::Clear { .. } => 0,
+        Operation::Begin { .. } => 0,
     }
 }
 

@@ -1,5 +1,5 @@
 // The file that is written.
-use gathered_out::Gathered;
+use gathered_out::OutputBuffer;
 
 /// The maximum length of the file in bytes.
 pub(crate) const LIMIT: u32 = 1 << 30;
@@ -15,5 +15,5 @@ pub struct FlatFile {
 #[derive(Drop)]
 pub(crate) struct Draft {
     pub file: FlatFile,
-    pub gathered: Gathered,
+    pub buffered: OutputBuffer,
 }

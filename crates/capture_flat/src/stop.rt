@@ -3,32 +3,32 @@ ghost use Rattle.std.specs.Prelude.{◌≤◌, ◌⊎◌};
 ghost use Rattle.dev_io.specs.Device.{Rose, Writes, side};
 ghost use Rattle.gpu_capture.specs.Reader.{IsReadFault};
 ghost use Rattle.event_play.specs.Replay.{next_number};
-ghost use Rattle.capture_flat.specs.OneEvent.{Closes, EndsBehind, EndsReading, StopsAs, end_due, writing};
+ghost use Rattle.capture_flat.specs.OneEvent.{Closes, EndsAfter, EndsReading, StopsAs, end_due, writing};
 ghost use Rattle.capture_flat.specs.Out.{head_due};
 ghost use Rattle.capture_flat.specs.Passing.{MayReadFault, MayWriteFault, IsEnding};
 
 use crate::ending::FlatEnding;
 use crate::file::Draft;
 use dev_io::{Failed, Sink};
-use gathered_out::Gathered;
+use gathered_out::OutputBuffer;
 use gpu_capture::{Stop, write_end, write_start};
 
 /// Flushes the buffer and returns `ending`. If the flush fails, returns `WriteFailed`. If `ending` is `WriteFailed`,
 /// writes nothing. `ending` must not be a fault of the source.
-pub(crate) fn end_behind<K: Sink>(
+pub(crate) fn end_after<K: Sink>(
     ending: FlatEnding,
-    gathered: &mut Gathered,
+    buffered: &mut OutputBuffer,
     out: &mut K,
 ) -> FlatEnding
     requires { IsEnding ending × (MayReadFault ending → ⊥) }
-    ensures ends { EndsBehind ending gathered.old (K.held out.old) (K.held out.new) result }
+    ensures ends { EndsAfter ending buffered.old (K.held out.old) (K.held out.new) result }
     ensures known { IsEnding result × (MayReadFault result → ⊥) }
     ensures cause { MayWriteFault result → MayWriteFault ending ⊎ Rose (K.faults out.old) (K.faults out.new) }
     ensures faults { K.faults out.old ≤ K.faults out.new }
 {
     match ending {
         FlatEnding::WriteFailed { .. } => ending,
-        _ => match gathered.write(out) {
+        _ => match buffered.write(out) {
             Ok(()) => ending,
             Err(event) => FlatEnding::WriteFailed { event },
         },
@@ -50,7 +50,7 @@ pub(crate) fn end_reading<K: Sink>(
     ensures cause { MayWriteFault result → Rose (K.faults out.old) (K.faults out.new) }
     ensures faults { K.faults out.old ≤ K.faults out.new }
 {
-    match draft.gathered.write(out) {
+    match draft.buffered.write(out) {
         Ok(()) => finish(stop, draft.file.version, played, out),
         Err(event) => FlatEnding::WriteFailed { event },
     }

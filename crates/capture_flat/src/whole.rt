@@ -1,7 +1,7 @@
 // Reads, plays and writes a whole capture.
 ghost use Rattle.std.specs.Prelude.{◌≡◌, ◌≤◌, [], map};
 ghost use Rattle.dev_io.specs.Device.{Rose};
-ghost use Rattle.event_play.specs.Replay.{Tale, from_state, raised};
+ghost use Rattle.event_play.specs.Replay.{Replay, from_state, raised};
 ghost use Rattle.event_play.specs.RigState.{Stands, StandsFor};
 ghost use Rattle.event_play.specs.Step.{Machine};
 ghost use Rattle.event_play.specs.Streams.{streams};
@@ -11,10 +11,10 @@ use crate::block::{pass_words, words_at_once};
 use crate::ending::FlatEnding;
 use crate::file::{Draft, FlatFile};
 use crate::pass::pass_event;
-use crate::stop::{end_behind, end_reading};
+use crate::stop::{end_after, end_reading};
 use dev_io::{Sink, Source};
 use event_play::{Rig, write_at_pause};
-use gathered_out::Gathered;
+use gathered_out::OutputBuffer;
 use gpu_capture::{EventReader, WordBlock};
 use gpu_taps::Listener;
 use std::sync::ledger::Ledger;
@@ -67,10 +67,10 @@ pub fn flat<S: Source, K: Sink, T: Listener, L: Ledger>(
             Ok(event) => {
                 match pass_event(rig, &event, &mut draft, out, taps, steps) {
                     Ok(()) => {}
-                    Err(ending) => return end_behind(ending, &mut draft.gathered, out),
+                    Err(ending) => return end_after(ending, &mut draft.buffered, out),
                 }
-                match write_at_pause(&reader, source, since, &mut draft.gathered, out) {
-                    Ok(place) => since = place,
+                match write_at_pause(&reader, source, since, &mut draft.buffered, out) {
+                    Ok(offset) => since = offset,
                     Err(event) => return FlatEnding::WriteFailed { event },
                 }
                 let most = words_at_once(&reader, source, since, draft.file.size);
@@ -83,8 +83,8 @@ pub fn flat<S: Source, K: Sink, T: Listener, L: Ledger>(
                     if let Err(stop) = read {
                         return end_reading(stop, &mut draft, rig.played(), out);
                     }
-                    match write_at_pause(&reader, source, since, &mut draft.gathered, out) {
-                        Ok(place) => since = place,
+                    match write_at_pause(&reader, source, since, &mut draft.buffered, out) {
+                        Ok(offset) => since = offset,
                         Err(lacking) => return FlatEnding::WriteFailed { event: lacking },
                     }
                 }
@@ -98,17 +98,17 @@ pub fn flat<S: Source, K: Sink, T: Listener, L: Ledger>(
 // Returns the empty file for a capture of this version.
 fn first_draft(version: u8) -> Draft
     ensures file { result.file ≡ record { version = version; size = 0 } }
-    ensures gathered { result.gathered ≡ [] }
+    ensures buffered { result.buffered ≡ [] }
 {
     Draft {
         file: FlatFile { version, size: 0 },
-        gathered: Gathered::new(),
+        buffered: OutputBuffer::new(),
     }
 }
 
 // Changes to the tall profile if captures of `version` are played in it.
 fn raise(rig: &mut Rig, version: u8)
-    ensures { (t : Tale) → StandsFor rig.old t → StandsFor rig.new (raised t version) }
+    ensures { (t : Replay) → StandsFor rig.old t → StandsFor rig.new (raised t version) }
 {
     if version == TALL_VERSION {
         rig.set_tall();

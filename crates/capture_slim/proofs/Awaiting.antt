@@ -9,7 +9,7 @@ use Rattle.dev_io.proofs.Parts.{prepended-nil, taken_on}
 use Rattle.gpu_capture.specs.Capture.{Captured, capture, limit, then_events, opened, numbered_version, heads}
 use Rattle.gpu_capture.specs.Head.{head_among}
 use Rattle.gpu_capture.specs.Reader.{Takes, StopsAt, IsReadFault, IsStart, capture_from}
-use Rattle.gpu_capture.specs.Reader.{standing, work_left, tag_due}
+use Rattle.gpu_capture.specs.Reader.{reader_input, work_left, tag_expected}
 use Rattle.gpu_capture.specs.declared.event.Event.{Event}
 use Rattle.gpu_capture.specs.declared.event.Stop.{Stop}
 use Rattle.gpu_capture.specs.declared.event.Stop.TheVariants.{End}
@@ -17,23 +17,23 @@ use Rattle.gpu_capture.specs.declared.progress.Progress.{Progress}
 use Rattle.gpu_capture.proofs.Taken.{taken_count}
 use Rattle.gpu_capture.proofs.Versions.{version_from}
 use Rattle.event_play.specs.Ends.{IsNotEnd}
-use Rattle.event_play.specs.Pausing.{Pauses, most_behind}
+use Rattle.event_play.specs.Pausing.{Pauses, most_after}
 use Rattle.event_play.specs.Ports.{IsAtPorts}
 use Rattle.dead_drawing.specs.Laws.{height_for}
 use Rattle.dead_drawing.specs.Slim.{slim_events}
 use Rattle.dead_drawing.proofs.PacketLaw.{ports_append}
-use Rattle.gpu_capture.specs.Reading.{AreFewBehind, AreNeeded, SaysFirst}
+use Rattle.gpu_capture.specs.Reading.{AreFewAfter, AreNeeded, SaysFirst}
 use Rattle.gpu_capture.proofs.Needed.{Answers, answers}
 use Rattle.gpu_capture.proofs.Needed.{none_needed, needed_on, needed_end, says_on, stop_says}
 use Rattle.gpu_capture.proofs.Needed.{takes_version, stops_version}
 use Rattle.capture_slim.specs.Came.{Came, EndsEvent, EndsRefused, EndsPushed, EndsStop, FailsAny, FailsLast, HasCount}
-use Rattle.capture_slim.specs.Came.{FailsBehind, GathersFrom, and_event, window_for}
+use Rattle.capture_slim.specs.Came.{FailsAfter, BuffersFrom, and_event, window_for}
 use Rattle.capture_slim.specs.File.{AreFrom, IsDraft, LacksFrom, begun, output_of}
-use Rattle.capture_slim.specs.Stream.{leaving, outs, window_behind}
+use Rattle.capture_slim.specs.Stream.{leaving, outs, window_after}
 use Rattle.gathered_out.specs.Pieces.{Piece}
 use Rattle.gathered_out.specs.Puts.{BreaksWriting, holding}
-use Rattle.gathered_out.proofs.Pieces.{none_gathered, only_gathered}
-use Rattle.capture_slim.specs.Passing.{Streams, streams, Way, StopsBehind, RefusesNext, SaysEnding, said_of}
+use Rattle.gathered_out.proofs.Pieces.{none_buffered, only_buffered}
+use Rattle.capture_slim.specs.Passing.{Streams, streams, Way, StopsAfter, RefusesNext, SaysEnding, said_of}
 use Rattle.capture_slim.specs.Passing.{EndsSlim, Passed, WritesAll}
 use Rattle.capture_slim.specs.Window.{Window, first_window, pushed, waiting}
 use Rattle.capture_slim.specs.declared.ending.SlimEnding.{SlimEnding}
@@ -41,7 +41,7 @@ use Rattle.capture_slim.specs.declared.ending.SlimEnding.TheVariants.{Done, Stop
 use Rattle.capture_slim.specs.declared.file.Draft.{Draft}
 use Rattle.capture_slim.specs.declared.file.SlimFile.{SlimFile}
 use Rattle.event_play.proofs.Awaiting.{events_left}
-use Rattle.event_play.proofs.Behind.{IsReading}
+use Rattle.event_play.proofs.After.{IsReading}
 use Rattle.capture_slim.proofs.Firsts.{counted, fails_among, gone, outs_more, rest, rest_refused, size, waiting_size}
 use Rattle.capture_slim.proofs.Files.{first_draft, out_draft, written_most}
 use Rattle.capture_slim.proofs.Late.{Since, few_last, few_later, few_wait, from_off, none_or_full, since_first}
@@ -61,9 +61,9 @@ pub record Awaits (version : ℕ) (before now : Streams) (window : Window) (draf
   pub says : (rest : List ℕ) → capture (taken ++ rest) ≡ then_events events (capture_from old rest)
   pub needed : AreNeeded capture events taken
   pub reading : IsReading old taken events
-  pub near : old.place < since + 4096
+  pub near : old.offset < since + 4096
   pub least : ℕ
-  pub from : GathersFrom least window draft count
+  pub from : BuffersFrom least window draft count
   pub last : Since events taken least since
   pub came : Came (record { version = version; events = events; base = before.held }) window draft count now.held
   pub named : (events ≡ []) ⊎ (1 ≤ new.version)
@@ -103,10 +103,10 @@ named_by : (r : Result ℕ ℕ) (bytes : List ℕ) (version : ℕ) (events : Lis
     → 1 ≤ version
 named_by (Ok n) bytes version events rest is =
     let start : nat_lt 0 (n + 1) ≡ true = grind arith in
-    let from = rw start at (version_from (tag_due (n + 1) 8) bytes (omega arith)) in
+    let from = rw start at (version_from (tag_expected (n + 1) 8) bytes (omega arith)) in
     let same = ap (λ (c : Captured). c.version) is in
     omega (arith, from, same)
-named_by (Err place) bytes version events rest is = let e = ap (λ (c : Captured). c.ending) is in absurd cc
+named_by (Err offset) bytes version events rest is = let e = ap (λ (c : Captured). c.ending) is in absurd cc
 
 named_by_end : (bytes : List ℕ) (version : ℕ) (events : List Event) (rest : List ℕ)
     → capture bytes ≡ record { version = version; events = events; ending = End; rest = rest } → 1 ≤ version
@@ -118,11 +118,11 @@ named_by_end bytes version events rest is =
 
 pub starts : (before : Streams) (left : Option (List ℕ)) (faults : ℕ) (window : Window) (first new : Progress)
     (version : ℕ) (draft : Draft) (next : Result Event Stop)
-    → draft.file ≡ record { version = version; size = 0 } → draft.gathered ≡ []
+    → draft.file ≡ record { version = version; size = 0 } → draft.buffered ≡ []
     → IsStart first → window ≡ first_window (height_for version) → version ≡ max new.version 1
-    → IfOk next (λ event. Takes (standing first before.left) (standing new left) (event ∷ []))
+    → IfOk next (λ event. Takes (reader_input first before.left) (reader_input new left) (event ∷ []))
     → OnOk next (1 ≤ new.version)
-    → IfErr next (λ stop. StopsAt (standing first before.left) (standing new left) stop)
+    → IfErr next (λ stop. StopsAt (reader_input first before.left) (reader_input new left) stop)
     → Awaits version before (streams left faults before.held) window draft 0 0 new next
 starts before left faults window first new version draft next file_is none is window_is same takes answered stops =
     record {
@@ -134,10 +134,10 @@ starts before left faults window first new version draft next file_is none is wi
       says = λ rest. rw is.version refl;
       needed = none_needed [] refl;
       reading = inl (is, refl, refl);
-      near = let place = is.place in omega (arith, place);
+      near = let offset = is.offset in omega (arith, offset);
       least = 0;
       from = record {
-        gathered = let P : List Piece → Type 0 = λ ps. AreFrom 0 ps in subst P (sym none) tt;
+        buffered = let P : List Piece → Type 0 = λ ps. AreFrom 0 ps in subst P (sym none) tt;
         later = omega (arith, ap (λ (w : Window). length (waiting w)) window_is);
       };
       last = since_first 0;
@@ -148,8 +148,8 @@ starts before left faults window first new version draft next file_is none is wi
         window_is = window_is;
         count_is = refl;
         draft_is =
-            let P : SlimFile → Type 0 = λ f. IsDraft (record { file = f; gathered = [] }) before.held before.held [] in
-            let Q : List Piece → Type 0 = λ ps. IsDraft (record { file = draft.file; gathered = ps }) before.held
+            let P : SlimFile → Type 0 = λ f. IsDraft (record { file = f; buffered = [] }) before.held before.held [] in
+            let Q : List Piece → Type 0 = λ ps. IsDraft (record { file = draft.file; buffered = ps }) before.held
             before.held [] in
             subst Q (sym none) (subst P (sym file_is) (first_draft version before.held));
       };
@@ -161,16 +161,16 @@ starts before left faults window first new version draft next file_is none is wi
 -- ---- a pause
 
 abbrev with_pieces : Draft → List Piece → Draft
-with_pieces draft pieces = record { file = draft.file; gathered = pieces }
+with_pieces draft pieces = record { file = draft.file; buffered = pieces }
 
 -- few bytes were read since the last flush, or the buffer is flushed here
 pub record Paused (passed : Passed) (taken : List ℕ) (window : Window) (draft : Draft) (count since : ℕ) (p : Progress)
     (held : Option (List ℕ)) : Type 0 where
   pub came : Came passed window draft count held
   pub least : ℕ
-  pub from : GathersFrom least window draft count
+  pub from : BuffersFrom least window draft count
   pub last : Since passed.events taken least since
-  pub near : p.place < since + 4096
+  pub near : p.offset < since + 4096
 
 module _ (passed : Passed) (taken : List ℕ) (window : Window) (draft : Draft) (count : ℕ) (held : Option (List ℕ))
     (came : Came passed window draft count held) where
@@ -180,17 +180,17 @@ module _ (passed : Passed) (taken : List ℕ) (window : Window) (draft : Draft) 
       omega (arith, same, few_wait (height_for passed.version) passed.events came.ports)
 
   pauses_on : (pieces : List Piece) (least since at : ℕ) (p : Progress) (now : Option (List ℕ))
-      → GathersFrom least window draft count → Since passed.events taken least since
-      → length taken ≡ min p.place limit → Pauses p.place since (holding held draft.gathered) (holding now pieces) at
+      → BuffersFrom least window draft count → Since passed.events taken least since
+      → length taken ≡ min p.offset limit → Pauses p.offset since (holding held draft.buffered) (holding now pieces) at
       → Paused passed taken window (with_pieces draft pieces) count at p now
-  pauses_on pieces least since at p now from last place_is (inl on) = record {
+  pauses_on pieces least since at p now from last offset_is (inl on) = record {
     came = rw (on.2, on.3) came;
     least = least;
     from = rw on.2 from;
     last = rw on.0 last;
     near = let same = on.0 in let near = on.1 in omega (arith, same, near);
   }
-  pauses_on pieces least since at p now from last place_is (inr written) =
+  pauses_on pieces least since at p now from last offset_is (inr written) =
       let all = outs passed.events (window_for passed) in
       let P : List Piece → Type 0 = λ ps. IsDraft (with_pieces draft ps) passed.base now all in
       let Q : List Piece → Type 0 = λ ps. AreFrom (count + 1 - length (waiting window)) ps in
@@ -204,22 +204,22 @@ module _ (passed : Passed) (taken : List ℕ) (window : Window) (draft : Draft) 
           window_is = came.window_is;
           count_is = came.count_is;
           draft_is = subst P (sym written.1)
-              (out_draft draft.file draft.gathered [] passed.base held now all came.draft_is
-              (none_gathered held now draft.gathered
-              (written.2.stands held draft.gathered (only_gathered held draft.gathered))));
+              (out_draft draft.file draft.buffered [] passed.base held now all came.draft_is
+              (none_buffered held now draft.buffered
+              (written.2.stands held draft.buffered (only_buffered held draft.buffered))));
         };
         least = count + 1 - length (waiting window);
-        from = record { gathered = subst Q (sym written.1) tt; later = omega (arith, counts) };
-        last = rw same (since_here passed.events taken (count + 1 - length (waiting window)) p.place place_is
+        from = record { buffered = subst Q (sym written.1) tt; later = omega (arith, counts) };
+        last = rw same (since_here passed.events taken (count + 1 - length (waiting window)) p.offset offset_is
             (omega (arith, wait_few, counts, came.count_is)));
         near = omega (arith, same);
       }
 
   -- the flush failed at a record that had to be written at the last event or before
-  breaks_any : (now : Option (List ℕ)) (lacking : ℕ) → BreaksWriting held now draft.gathered lacking
-      → FailsBehind passed now lacking (WriteFailed lacking)
+  breaks_any : (now : Option (List ℕ)) (lacking : ℕ) → BreaksWriting held now draft.buffered lacking
+      → FailsAfter passed now lacking (WriteFailed lacking)
   breaks_any now lacking breaks =
-      let off = breaks.off held draft.gathered (only_gathered held draft.gathered) in
+      let off = breaks.off held draft.buffered (only_buffered held draft.buffered) in
       let known = came.draft_is.lacks now lacking off in
       let output = output_of draft passed.base now in
       let first = gone passed window draft count held came in
@@ -250,7 +250,7 @@ module _ (version : ℕ) (before now : Streams) (window : Window) (draft : Draft
   abbrev passed : Passed
   passed = record { version = version; events = at.events; base = before.held }
 
-  pub takes : Takes (standing at.old at.left) (standing new now.left) (e ∷ [])
+  pub takes : Takes (reader_input at.old at.left) (reader_input new now.left) (e ∷ [])
   takes = at.answer.0
 
   version_is : new.version ≡ version
@@ -280,42 +280,42 @@ module _ (version : ℕ) (before now : Streams) (window : Window) (draft : Draft
   next_version newer left (Err stop) answer =
       stops_version new newer.version stop answer.taken left answer.says at.answer.1
 
-  all_place : length (at.taken ++ takes.taken) ≡ min new.place limit
-  all_place = taken_count new (at.events ++ e ∷ []) (at.taken ++ takes.taken) at.answer.1 all_says
+  all_offset : length (at.taken ++ takes.taken) ≡ min new.offset limit
+  all_offset = taken_count new (at.events ++ e ∷ []) (at.taken ++ takes.taken) at.answer.1 all_says
 
   last_on : Since (at.events ++ e ∷ []) (at.taken ++ takes.taken) at.least since
   last_on = since_more at.events e at.taken takes.taken at.least since at.last all_needed
 
   -- after the event, what is buffered is as late as before it
   from_on : (next_window : Window) (next_draft : Draft) (held : Option (List ℕ))
-      → Came (and_event passed e) next_window next_draft (count + 1) held → AreFrom at.least next_draft.gathered
-      → GathersFrom at.least next_window next_draft (count + 1)
+      → Came (and_event passed e) next_window next_draft (count + 1) held → AreFrom at.least next_draft.buffered
+      → BuffersFrom at.least next_window next_draft (count + 1)
   from_on next_window next_draft held came from =
       let w = window_for passed in
       let more = ap length (outs_more at.events e w) in
-      let long = length-append (outs at.events w) (leaving (pushed (window_behind at.events w) e)) in
+      let long = length-append (outs at.events w) (leaving (pushed (window_after at.events w) e)) in
       let counts = counted passed window draft count now.held at.came in
       let counts_now = counted (and_event passed e) next_window next_draft (count + 1) held came in
-      record { gathered = from; later = omega (arith, at.from.later, more, long, counts, counts_now) }
+      record { buffered = from; later = omega (arith, at.from.later, more, long, counts, counts_now) }
 
-  pub paused_on : (next_window : Window) (next_draft : Draft) (pieces : List Piece) (place : ℕ)
+  pub paused_on : (next_window : Window) (next_draft : Draft) (pieces : List Piece) (offset : ℕ)
       (held held_now : Option (List ℕ)) → Came (and_event passed e) next_window next_draft (count + 1) held
-      → AreFrom at.least next_draft.gathered
-      → Pauses new.place since (holding held next_draft.gathered) (holding held_now pieces) place
+      → AreFrom at.least next_draft.buffered
+      → Pauses new.offset since (holding held next_draft.buffered) (holding held_now pieces) offset
       → Paused (and_event passed e) (at.taken ++ takes.taken) next_window (with_pieces next_draft pieces) (count + 1)
-      place new held_now
-  paused_on next_window next_draft pieces place held held_now came from pauses =
+      offset new held_now
+  paused_on next_window next_draft pieces offset held held_now came from pauses =
       pauses_on (and_event passed e) (at.taken ++ takes.taken) next_window next_draft (count + 1) held came pieces
-      at.least since place new held_now (from_on next_window next_draft held came from) last_on all_place pauses
+      at.least since offset new held_now (from_on next_window next_draft held came from) last_on all_offset pauses
 
   pub goes_on : (newer : Progress) (left held : Option (List ℕ)) (faults : ℕ) (next_window : Window)
-      (next_draft : Draft) (place : ℕ) (next : Result Event Stop)
-      → Paused (and_event passed e) (at.taken ++ takes.taken) next_window next_draft (count + 1) place new held
-      → IfOk next (λ event. Takes (standing new now.left) (standing newer left) (event ∷ []))
+      (next_draft : Draft) (offset : ℕ) (next : Result Event Stop)
+      → Paused (and_event passed e) (at.taken ++ takes.taken) next_window next_draft (count + 1) offset new held
+      → IfOk next (λ event. Takes (reader_input new now.left) (reader_input newer left) (event ∷ []))
       → OnOk next (1 ≤ newer.version)
-      → IfErr next (λ stop. StopsAt (standing new now.left) (standing newer left) stop)
-      → Awaits version before (streams left faults held) next_window next_draft (count + 1) place newer next
-  goes_on newer left held faults next_window next_draft place next paused took answered stops =
+      → IfErr next (λ stop. StopsAt (reader_input new now.left) (reader_input newer left) stop)
+      → Awaits version before (streams left faults held) next_window next_draft (count + 1) offset newer next
+  goes_on newer left held faults next_window next_draft offset next paused took answered stops =
       let answer = answers new newer now.left left next took answered stops in
       let known = next_version newer left next answer in
       record {
@@ -339,14 +339,14 @@ module _ (version : ℕ) (before now : Streams) (window : Window) (draft : Draft
 
   -- few bytes are read after the event at which a record had to be written
   few_before : (number : ℕ) → at.least ≤ number → number + 4096 ≤ length at.events
-      → AreFewBehind capture (take (number + 4096) at.events) (at.taken ++ takes.taken) most_behind
+      → AreFewAfter capture (take (number + 4096) at.events) (at.taken ++ takes.taken) most_after
   few_before number from most = few_later at.old at.events at.taken takes.taken at.least since (number + 4096) at.last
       at.reading at.says at.near takes.needed (omega (arith, from)) most
 
   few_now : (number : ℕ) → at.least ≤ number → number + 4096 ≤ length (at.events ++ e ∷ [])
-      → AreFewBehind capture (take (number + 4096) (at.events ++ e ∷ [])) (at.taken ++ takes.taken) most_behind
+      → AreFewAfter capture (take (number + 4096) (at.events ++ e ∷ [])) (at.taken ++ takes.taken) most_after
   few_now number from most =
-      let P : List Event → Type 0 = λ es. AreFewBehind capture es (at.taken ++ takes.taken) most_behind in
+      let P : List Event → Type 0 = λ es. AreFewAfter capture es (at.taken ++ takes.taken) most_after in
       elim (cases_lt (length at.events) (number + 4096)) [
         | inl last ↦ few_last (at.events ++ e ∷ []) (at.taken ++ takes.taken) (number + 4096) all_needed
             (omega (arith, last, most, length-append at.events (e ∷ [])))
@@ -398,11 +398,11 @@ module _ (version : ℕ) (before now : Streams) (window : Window) (draft : Draft
 
   -- the flush failed at a pause
   pub pause_end : (next_window : Window) (next_draft : Draft) (held held_now : Option (List ℕ)) (lacking : ℕ)
-      → Came (and_event passed e) next_window next_draft (count + 1) held → AreFrom at.least next_draft.gathered
-      → BreaksWriting held held_now next_draft.gathered lacking
+      → Came (and_event passed e) next_window next_draft (count + 1) held → AreFrom at.least next_draft.buffered
+      → BreaksWriting held held_now next_draft.buffered lacking
       → EndsSlim before (streams now.left now.faults held_now) (WriteFailed lacking)
   pause_end next_window next_draft held held_now lacking came from breaks =
-      let off = breaks.off held next_draft.gathered (only_gathered held next_draft.gathered) in
+      let off = breaks.off held next_draft.buffered (only_buffered held next_draft.buffered) in
       record {
         way = way_of (at.events ++ e ∷ []);
         bytes = all_taken;
@@ -410,7 +410,7 @@ module _ (version : ℕ) (before now : Streams) (window : Window) (draft : Draft
         says = pushed_says held_now (WriteFailed lacking)
             (breaks_any (and_event passed e) (at.taken ++ takes.taken) next_window next_draft (count + 1) held came
             held_now lacking breaks)
-            (from_off at.least next_draft.gathered held held_now lacking from off);
+            (from_off at.least next_draft.buffered held held_now lacking from off);
       }
 
   pub event_end : (held : Option (List ℕ)) (ending : SlimEnding) → EndsEvent passed e held ending
@@ -437,7 +437,7 @@ module _ (version : ℕ) (before now : Streams) (window : Window) (draft : Draft
     (stop : Stop)
     (at : Awaits version before now window draft count since new (Err stop)) (most : version ≤ 3)
     (cause : IsReadFault stop → Rose before.faults now.faults) where
-  stops : StopsAt (standing at.old at.left) (standing new now.left) stop
+  stops : StopsAt (reader_input at.old at.left) (reader_input new now.left) stop
   stops = at.answer
 
   -- these events, of a capture of this version
@@ -447,25 +447,25 @@ module _ (version : ℕ) (before now : Streams) (window : Window) (draft : Draft
   abbrev way : Way
   way = record { version = new.version; taken = at.taken ++ at.answer.taken; events = at.events }
 
-  stops_behind : (held : Option (List ℕ)) → StopsBehind way stop before (streams now.left now.faults held)
-  stops_behind held = record {
+  stops_after : (held : Option (List ℕ)) → StopsAfter way stop before (streams now.left now.faults held)
+  stops_after held = record {
     says = stop_says at.old (said_of way) _ at.taken at.answer.taken now.left stop refl at.says at.answer.says;
     needed = needed_end at.old at.events at.taken at.answer.taken at.says at.needed at.answer.needed;
     cause = cause;
   }
 
   -- it stops with End
-  ends_behind : (held : Option (List ℕ)) → stop ≡ End → StopsBehind way End before (streams now.left now.faults held)
-  ends_behind held is =
-      let P : Stop → Type 0 = λ s. StopsBehind way s before (streams now.left now.faults held) in
-      subst P is (stops_behind held)
+  ends_after : (held : Option (List ℕ)) → stop ≡ End → StopsAfter way End before (streams now.left now.faults held)
+  ends_after held is =
+      let P : Stop → Type 0 = λ s. StopsAfter way s before (streams now.left now.faults held) in
+      subst P is (stops_after held)
 
   end_named : stop ≡ End → 1 ≤ new.version
   end_named is =
-      named_by_end (way.taken ++ []) new.version at.events [] ((ends_behind now.held is).says [])
+      named_by_end (way.taken ++ []) new.version at.events [] ((ends_after now.held is).says [])
 
   few_stop : (number : ℕ) → at.least ≤ number → number + 4096 ≤ length at.events
-      → AreFewBehind capture (take (number + 4096) at.events) way.taken most_behind
+      → AreFewAfter capture (take (number + 4096) at.events) way.taken most_after
   few_stop number from most = few_later at.old at.events at.taken at.answer.taken at.least since (number + 4096) at.last
       at.reading at.says at.near at.answer.needed (omega (arith, from)) most
 
@@ -481,30 +481,30 @@ module _ (version : ℕ) (before now : Streams) (window : Window) (draft : Draft
       by_ending : (ending : SlimEnding) → EndsStop (passed_as new.version at.events) stop held ending
           → LacksFrom at.least ending → SaysEnding way before (streams now.left now.faults held) ending
       by_ending Done ends from =
-          let behind = ends_behind held ends.0 in
+          let after = ends_after held ends.0 in
           record {
-            stops = behind;
+            stops = after;
             held = ends.1;
             fits = ends.2;
             is_slim = is_slim new.version way.taken at.events (end_named ends.0) (omega (arith, most, at.same))
-                behind.says at.came.ports at.came.words ends.2;
+                after.says at.came.ports at.came.words ends.2;
           }
       by_ending (Stopped number told) ends from =
-          let P : Stop → Type 0 = λ s. StopsBehind way s before (streams now.left now.faults held) in
+          let P : Stop → Type 0 = λ s. StopsAfter way s before (streams now.left now.faults held) in
           let Q : Stop → Type 0 = λ s. IsNotEnd s in
-          (ends.2, subst P (sym ends.0) (stops_behind held), subst Q (sym ends.0) ends.1)
+          (ends.2, subst P (sym ends.0) (stops_after held), subst Q (sym ends.0) ends.1)
       by_ending (TooLong number) fails from = (
-        record { due = inr (fails.last, inl (stop, stops_behind held)); fails = fails.fails },
+        record { due = inr (fails.last, inl (stop, stops_after held)); fails = fails.fails },
         is_too_long way before held number number fails.fails,
       )
       by_ending (WriteFailed number) ends from =
           elim ends [
             | inl fails ↦ inl (record {
-              due = inr (fails.some, inl (stop, stops_behind held));
+              due = inr (fails.some, inl (stop, stops_after held));
               few = few_stop number from;
               fails = fails.fails;
             })
-            | inr u ↦ inr (record { stops = ends_behind held u.0; writes = u.1 })
+            | inr u ↦ inr (record { stops = ends_after held u.0; writes = u.1 })
           ]
       by_ending (NotFlat number) ends from = absurd ends
 

@@ -134,7 +134,7 @@ breaks_last pieces p held now number off =
 -- ---- what is buffered
 
 abbrev draft_of : SlimFile → List Piece → Draft
-draft_of file pieces = record { file = file; gathered = pieces }
+draft_of file pieces = record { file = file; buffered = pieces }
 
 -- nothing is buffered, and no event stays
 pub first_draft : (version : ℕ) (held : Option (List ℕ))
@@ -149,16 +149,16 @@ first_draft version held = record {
 }
 
 -- what was buffered is written before it, or is still buffered
-pub out_draft : (file : SlimFile) (pieces gathered : List Piece) (base held now : Option (List ℕ))
-    (outs : List (Option Event)) → IsDraft (draft_of file pieces) base held outs → AreOut held pieces now gathered
-    → IsDraft (draft_of file gathered) base now outs
-out_draft file pieces gathered base held now outs is out = record {
+pub out_draft : (file : SlimFile) (pieces buffered : List Piece) (base held now : Option (List ℕ))
+    (outs : List (Option Event)) → IsDraft (draft_of file pieces) base held outs → AreOut held pieces now buffered
+    → IsDraft (draft_of file buffered) base now outs
+out_draft file pieces buffered base held now outs is out = record {
   file_is = record {
-    stands = all_out held now (appended now (bytes_of gathered)) pieces gathered out refl ∙ is.file_is.stands;
+    stands = all_out held now (appended now (bytes_of buffered)) pieces buffered out refl ∙ is.file_is.stands;
     size_is = is.file_is.size_is;
     fits = is.file_is.fits;
   };
-  lacks = λ later number off. is.lacks later number (breaks_all held now later pieces gathered number out off);
+  lacks = λ later number off. is.lacks later number (breaks_all held now later pieces buffered number out off);
 }
 
 -- none of these stays
@@ -166,7 +166,7 @@ pub passed_draft : (draft : Draft) (base held : Option (List ℕ)) (outs none : 
     → IsDraft draft base held outs
     → kept_of none ≡ [] → IsDraft draft base held (outs ++ none)
 passed_draft draft base held outs none is are =
-    let P : List Event → Type 0 = λ es. IsFile draft.file base (appended held (bytes_of draft.gathered)) es in
+    let P : List Event → Type 0 = λ es. IsFile draft.file base (appended held (bytes_of draft.buffered)) es in
     let same : kept_of (outs ++ none) ≡ kept_of outs =
     kept_append outs none ∙ ap (λ (es : List Event). kept_of outs ++ es) are ∙ append-nil (kept_of outs) in
     record {
@@ -190,23 +190,23 @@ module _ (draft : Draft) (base held : Option (List ℕ)) (outs : List (Option Ev
   piece = record { number = number; bytes = due draft.file e }
 
   abbrev pieces : List Piece
-  pieces = draft.gathered ++ piece ∷ []
+  pieces = draft.buffered ++ piece ∷ []
 
   abbrev new_file : SlimFile
   new_file = record { version = version; size = after }
 
   due_is : due draft.file e ≡ head_due version kept ++ spelled e
-  due_is = due_same draft.file base (appended held (bytes_of draft.gathered)) kept e is.file_is
+  due_is = due_same draft.file base (appended held (bytes_of draft.buffered)) kept e is.file_is
 
   size_is : draft.file.size + length (due draft.file e) ≡ length (begun version (kept ++ e ∷ []))
-  size_is = size_more draft.file base (appended held (bytes_of draft.gathered)) kept e is.file_is
+  size_is = size_more draft.file base (appended held (bytes_of draft.buffered)) kept e is.file_is
 
   record_lacks : (now : Option (List ℕ)) → after + 4 ≤ limit
-      → AppendsPart (appended held (bytes_of draft.gathered)) now (due draft.file e)
+      → AppendsPart (appended held (bytes_of draft.buffered)) now (due draft.file e)
       → IsLacking (output_of draft base now) kept e
   record_lacks now fits part =
       let P : Option (List ℕ) → Type 0 = λ mid. AppendsPart mid now (head_due version kept ++ spelled e) in
-      let Q : List ℕ → Type 0 = λ bytes. AppendsPart (appended held (bytes_of draft.gathered)) now bytes in
+      let Q : List ℕ → Type 0 = λ bytes. AppendsPart (appended held (bytes_of draft.buffered)) now bytes in
       record {
         stands = subst P is.file_is.stands (subst Q due_is part);
         fits = omega (arith, fits, after_is, size_is, written_more version kept e);
@@ -214,9 +214,9 @@ module _ (draft : Draft) (base held : Option (List ℕ)) (outs : List (Option Ev
 
   record_file : after + 4 ≤ limit → IsFile new_file base (appended held (bytes_of pieces)) (kept ++ e ∷ [])
   record_file fits = record {
-    stands = ap (appended held) (bytes_more draft.gathered piece)
-        ∙ wrote_on base (appended held (bytes_of draft.gathered)) _ (begun version kept) (due draft.file e)
-        is.file_is.stands (sym (appended-appended held (bytes_of draft.gathered) (due draft.file e)))
+    stands = ap (appended held) (bytes_more draft.buffered piece)
+        ∙ wrote_on base (appended held (bytes_of draft.buffered)) _ (begun version kept) (due draft.file e)
+        is.file_is.stands (sym (appended-appended held (bytes_of draft.buffered) (due draft.file e)))
         ∙ ap (λ bytes. appended base (begun version kept ++ bytes)) due_is
         ∙ ap (appended base) (sym (begun_more version kept e));
     size_is = after_is ∙ size_is;
@@ -229,7 +229,7 @@ module _ (draft : Draft) (base held : Option (List ℕ)) (outs : List (Option Ev
       record {
         file_is = subst P (sym (kept_append outs (Some e ∷ []))) (record_file fits);
         lacks = λ now n off.
-            elim (breaks_last draft.gathered piece held now n off) [
+            elim (breaks_last draft.buffered piece held now n off) [
               | inl before ↦ fails_wider (output_of draft base now) outs (Some e ∷ []) n (WriteFailed n)
                   (is.lacks now n before)
               | inr last ↦ record {
@@ -244,7 +244,7 @@ module _ (draft : Draft) (base held : Option (List ℕ)) (outs : List (Option Ev
       }
 
   pub long_ends : (now : Option (List ℕ)) (ending : SlimEnding) → limit < after + 4
-      → EndsTooLong draft.gathered held now number ending → FailsNext (output_of draft base now) outs e ending
+      → EndsTooLong draft.buffered held now number ending → FailsNext (output_of draft base now) outs e ending
   long_ends now (TooLong n) long ends = (
     ends.0 ∙ at,
     record {

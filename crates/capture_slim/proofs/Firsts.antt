@@ -22,8 +22,9 @@ use Rattle.capture_slim.specs.File.{begun, head_at, head_due, IsDraft, IsFile, I
 use Rattle.capture_slim.specs.File.{FailsRest, Output, output_of}
 use Rattle.capture_slim.specs.Passing.{FailsAt, Passed, WritesAll, output_to, slim_file, slim_of}
 use Rattle.capture_slim.specs.Places.{kept_of, places}
-use Rattle.capture_slim.specs.Stream.{outs, window_behind, leaving, leaving_from, staying, staying_from}
-use Rattle.capture_slim.specs.Window.{Window, kept, kept_words, taken_up, with_event, with_word, added, heeded, pushed}
+use Rattle.capture_slim.specs.Stream.{outs, window_after, leaving, leaving_from, staying, staying_from}
+use Rattle.capture_slim.specs.Window.{Window, kept, kept_words, taken_up, with_event, with_word, added, effect_applied}
+use Rattle.capture_slim.specs.Window.{pushed}
 use Rattle.capture_slim.specs.Window.{all_left, left_of, waiting}
 use Rattle.capture_slim.specs.declared.ending.SlimEnding.{SlimEnding}
 use Rattle.capture_slim.specs.declared.ending.SlimEnding.TheVariants.{Done, Stopped, NotFlat, TooLong, WriteFailed}
@@ -34,7 +35,7 @@ use Rattle.capture_slim.specs.declared.slot.Slot.{Slot}
 use Rattle.capture_slim.proofs.Files.{head_same, begun_end, written_most}
 use Rattle.capture_slim.proofs.Rests.{fails_wider, kept_append, left_long}
 use Rattle.capture_slim.proofs.StreamLaw.{stream_law, leaves_law, places_law}
-use Rattle.capture_slim.proofs.WindowLemmas.{kept_long, judged_long, settled_long}
+use Rattle.capture_slim.proofs.WindowLemmas.{kept_long, packet_slots_long, settled_long}
 
 abbrev Outs : Type 0
 Outs = List (Option Event)
@@ -42,17 +43,17 @@ Outs = List (Option Event)
 -- ---- one more event
 
 pub outs_more : (events : List Event) (e : Event) (w : Window) → outs (events ++ e ∷ []) w
-    ≡ outs events w ++ leaving (pushed (window_behind events w) e)
+    ≡ outs events w ++ leaving (pushed (window_after events w) e)
 outs_more [] e w = append-nil (leaving (pushed w e))
 outs_more (x ∷ events) e w =
     ap (λ (os : Outs). leaving (pushed w x) ++ os) (outs_more events e (staying (pushed w x)))
     ∙ sym (append_assoc (leaving (pushed w x)) (outs events (staying (pushed w x)))
-    (leaving (pushed (window_behind events (staying (pushed w x))) e)))
+    (leaving (pushed (window_after events (staying (pushed w x))) e)))
 
-pub behind_more : (events : List Event) (e : Event) (w : Window) → window_behind (events ++ e ∷ []) w
-    ≡ staying (pushed (window_behind events w) e)
-behind_more [] e w = refl
-behind_more (x ∷ events) e w = behind_more events e (staying (pushed w x))
+pub after_more : (events : List Event) (e : Event) (w : Window) → window_after (events ++ e ∷ []) w
+    ≡ staying (pushed (window_after events w) e)
+after_more [] e w = refl
+after_more (x ∷ events) e w = after_more events e (staying (pushed w x))
 
 -- ---- how many events wait, and how many have left
 
@@ -81,14 +82,14 @@ event_size slots words e = omega (
 word_size : (words : List ℕ) (slots : List Slot) (word : ℕ) (idle : Bool) (area : Option Box2)
     → queue_size (with_word slots words word idle area) ≡ suc (length slots + length words)
 word_size (v ∷ vs) slots word idle area =
-    words_size slots _ ((v ∷ vs) ++ word ∷ []) _ (judged_long ((v ∷ vs) ++ word ∷ []) area)
+    words_size slots _ ((v ∷ vs) ++ word ∷ []) _ (packet_slots_long ((v ∷ vs) ++ word ∷ []) area)
     ∙ (omega (arith, length-append (v ∷ vs) (word ∷ [])))
 word_size [] slots word idle area = by_test (idle && is_droppable word)
   where
     by_test : (b : Bool)
         → queue_size (cond b (taken_up slots (word ∷ []) area) (with_event slots [] (event.Gp0 word)))
         ≡ suc (length slots + length {A = ℕ} [])
-    by_test true = words_size slots _ (word ∷ []) _ (judged_long (word ∷ []) area) ∙ omega arith
+    by_test true = words_size slots _ (word ∷ []) _ (packet_slots_long (word ∷ []) area) ∙ omega arith
     by_test false = event_size slots [] (event.Gp0 word)
 
 added_size : (q : Queue) (e : Event) (idle : Bool) (area : Option Box2) → queue_size (added q e idle area)
@@ -98,7 +99,7 @@ added_size q other idle area = event_size q.slots q.words other
 
 pub pushed_size : (w : Window) (e : Event) → size (pushed w e) ≡ suc (size w)
 unfolding pushed
-pushed_size w e = added_size (heeded w e) e _ _ ∙ ap (λ n. suc (n + length w.words))
+pushed_size w e = added_size (effect_applied w e) e _ _ ∙ ap (λ n. suc (n + length w.words))
     (settled_long w.slots (length w.words) w.control e)
 
 pub leaves_size : (slots : List Slot) (words : List ℕ)
@@ -112,7 +113,7 @@ leaves_size (s ∷ slots) words = by_test (ltb (length slots + length words) 409
     by_test true = omega arith
     by_test false = omega arith
 
-pub counts : (events : List Event) (w : Window) → length (outs events w) + size (window_behind events w)
+pub counts : (events : List Event) (w : Window) → length (outs events w) + size (window_after events w)
     ≡ size w + length events
 counts [] w = omega arith
 counts (e ∷ events) w =
@@ -133,7 +134,7 @@ waiting_size w = omega (arith, length-append w.slots (kept_words w.words), kept_
 
 record Placed (all xs : Outs) (e : Event) : Type 0 where
   before : kept_of (take (length xs) all) ≡ kept_of xs
-  behind : kept_of (take (length xs + 1) all) ≡ kept_of xs ++ e ∷ []
+  after : kept_of (take (length xs + 1) all) ≡ kept_of xs ++ e ∷ []
 
 placed : (all xs more : Outs) (e : Event) → all ≡ xs ++ Some e ∷ more → Placed all xs e
 placed all xs more e are =
@@ -143,7 +144,7 @@ placed all xs more e are =
       before = ap (λ os. kept_of (take (length xs) os)) are ∙ ap (λ n. kept_of (take n (xs ++ Some e ∷ more)))
           (sym none) ∙ ap kept_of first
           ∙ ap kept_of (append-nil xs);
-      behind = ap (λ os. kept_of (take (length xs + 1) os)) are ∙ ap kept_of (take-append-add xs (Some e ∷ more) 1)
+      after = ap (λ os. kept_of (take (length xs + 1) os)) are ∙ ap kept_of (take-append-add xs (Some e ∷ more) 1)
           ∙ kept_append xs (Some e ∷ []);
     }
 
@@ -155,15 +156,15 @@ fails_at passed held outs number ending is fails =
     let all = places (height_for passed.version) passed.events in
     let xs = fails.earlier in
     let e = fails.event in
-    let place = placed all xs fails.later e (is ∙ fails.are) in
+    let position = placed all xs fails.later e (is ∙ fails.are) in
     let Q : List Event → Type 0 = λ es. Fails (output_to passed held) es e number ending in
     record {
       earlier = length xs;
       number_is = fails.number_is;
       event = e;
-      stays = ap (λ n. kept_of (take n all)) fails.number_is ∙ place.behind
-          ∙ ap (λ es. es ++ e ∷ []) (sym place.before);
-      fails = subst Q (sym place.before) fails.fails;
+      stays = ap (λ n. kept_of (take n all)) fails.number_is ∙ position.after
+          ∙ ap (λ es. es ++ e ∷ []) (sym position.before);
+      fails = subst Q (sym position.before) fails.fails;
     }
 
 pub fails_among : (output : Output) (outs : Outs) (number : ℕ) (ending : SlimEnding)
@@ -312,9 +313,9 @@ module _ (passed : Passed) (window : Window) (draft : Draft) (count : ℕ) (held
     words_more [] hold = (holds, tt)
     words_more (x ∷ es) hold = (hold.0, words_more es hold.1)
 
-    now_is : next ≡ window_behind (passed.events ++ e ∷ []) (window_for passed)
+    now_is : next ≡ window_after (passed.events ++ e ∷ []) (window_for passed)
     now_is = next_is ∙ ap (λ w. staying (pushed w e)) came.window_is
-        ∙ sym (behind_more passed.events e (window_for passed))
+        ∙ sym (after_more passed.events e (window_for passed))
 
     outs_now : outs (passed.events ++ e ∷ []) (window_for passed) ≡ gone ++ leaving (pushed window e)
     outs_now = outs_more passed.events e (window_for passed)

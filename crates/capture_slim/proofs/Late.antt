@@ -7,17 +7,17 @@ use Rattle.std.proofs.lemmas.List.{take-append-le}
 use Rattle.std.proofs.Math.Seq.{take-length}
 use Rattle.gpu_capture.specs.Capture.{capture, limit, then_events}
 use Rattle.gpu_capture.specs.Reader.{AreNeeded as ReaderNeeds, capture_from}
-use Rattle.gpu_capture.specs.Reading.{AreFewBehind, AreNeeded}
+use Rattle.gpu_capture.specs.Reading.{AreFewAfter, AreNeeded}
 use Rattle.gpu_capture.specs.declared.event.Event.{Event}
 use Rattle.gpu_capture.specs.declared.event.Stop.{Stop}
 use Rattle.gpu_capture.specs.declared.progress.Progress.{Progress}
 use Rattle.gathered_out.specs.Pieces.{AreOut, BreaksOff, Piece}
-use Rattle.event_play.specs.Pausing.{most_behind}
+use Rattle.event_play.specs.Pausing.{most_after}
 use Rattle.event_play.specs.Ports.{AreAtPorts}
-use Rattle.event_play.proofs.Behind.{IsReading, few_behind}
+use Rattle.event_play.proofs.After.{IsReading, few_after}
 use Rattle.capture_slim.specs.Came.{StopsAs}
 use Rattle.capture_slim.specs.File.{AreFrom, LacksFrom}
-use Rattle.capture_slim.specs.Stream.{leaving_from, outs, staying, staying_from, window_behind}
+use Rattle.capture_slim.specs.Stream.{leaving_from, outs, staying, staying_from, window_after}
 use Rattle.capture_slim.specs.Telling.{KeepsWindow}
 use Rattle.capture_slim.specs.Window.{Window, first_window, left_of, pushed, waiting}
 use Rattle.capture_slim.specs.declared.ending.SlimEnding.{SlimEnding}
@@ -63,7 +63,7 @@ stops_from least number stop (NotFlat at) stops le = tt
 -- ---- how many events wait
 
 window_keeps : (events : List Event) (w : Window) → AreAtPorts events → KeepsWindow w
-    → KeepsWindow (window_behind events w)
+    → KeepsWindow (window_after events w)
 window_keeps [] w ports keeps = keeps
 window_keeps (e ∷ events) w ports keeps =
     window_keeps events (staying (pushed w e)) ports.1 (pushed_keeps w e keeps ports.0)
@@ -72,9 +72,9 @@ first_keeps : (height : ℕ) → KeepsWindow (first_window height)
 first_keeps height = record { ports = tt; few = omega arith; begun = tt }
 
 pub few_wait : (height : ℕ) (events : List Event) → AreAtPorts events
-    → length (waiting (window_behind events (first_window height))) ≤ 4096
+    → length (waiting (window_after events (first_window height))) ≤ 4096
 few_wait height events ports =
-    let w = window_behind events (first_window height) in
+    let w = window_after events (first_window height) in
     omega (arith, waiting_size w, (window_keeps events (first_window height) ports (first_keeps height)).few)
 
 -- if one leaves, 4,096 wait
@@ -98,13 +98,13 @@ full_stays (s ∷ slots) words full = by_test (ltb (length slots + length words)
     by_test true = omega (arith, full)
     by_test false = omega (arith, full)
 
-full_on : (events : List Event) (w : Window) → 4096 ≤ size w → 4096 ≤ size (window_behind events w)
+full_on : (events : List Event) (w : Window) → 4096 ≤ size w → 4096 ≤ size (window_after events w)
 full_on [] w full = full
 full_on (e ∷ events) w full =
     let p = pushed w e in
     full_on events (staying p) (full_stays p.slots p.words (omega (arith, full, pushed_size w e)))
 
-pub none_or_full : (events : List Event) (w : Window) → (outs events w ≡ []) ⊎ (4096 ≤ size (window_behind events w))
+pub none_or_full : (events : List Event) (w : Window) → (outs events w ≡ []) ⊎ (4096 ≤ size (window_after events w))
 none_or_full [] w = inl refl
 none_or_full (e ∷ events) w =
     let p = pushed w e in
@@ -129,8 +129,8 @@ pub record Needs (events : List Event) (flushed taken : List ℕ) : Type 0 where
 -- an event that was read later.
 pub record Since (events : List Event) (taken : List ℕ) (least since : ℕ) : Type 0 where
   pub flushed : List ℕ
-  pub behind : List ℕ
-  pub taken_is : taken ≡ flushed ++ behind
+  pub after : List ℕ
+  pub taken_is : taken ≡ flushed ++ after
   pub since_is : length flushed ≡ min since limit
   pub came : ℕ
   pub late : came < least + 4096
@@ -139,7 +139,7 @@ pub record Since (events : List Event) (taken : List ℕ) (least since : ℕ) : 
 pub since_first : (least : ℕ) → Since [] [] least 0
 since_first least = record {
   flushed = [];
-  behind = [];
+  after = [];
   taken_is = refl;
   since_is = omega arith;
   came = 0;
@@ -148,13 +148,13 @@ since_first least = record {
 }
 
 -- the buffer is flushed here
-pub since_here : (events : List Event) (taken : List ℕ) (least place : ℕ) → length taken ≡ min place limit
-    → length events < least + 4096 → Since events taken least place
-since_here events taken least place place_is late = record {
+pub since_here : (events : List Event) (taken : List ℕ) (least offset : ℕ) → length taken ≡ min offset limit
+    → length events < least + 4096 → Since events taken least offset
+since_here events taken least offset offset_is late = record {
   flushed = taken;
-  behind = [];
+  after = [];
   taken_is = sym (append-nil taken);
-  since_is = place_is;
+  since_is = offset_is;
   came = length events;
   late = late;
   due = λ m some most. absurd (omega (arith, some, most));
@@ -166,8 +166,8 @@ module _ (events : List Event) (e : Event) (taken more : List ℕ) (least since 
   abbrev all : List Event
   all = events ++ e ∷ []
 
-  all_taken : taken ++ more ≡ at.flushed ++ (at.behind ++ more)
-  all_taken = ap (λ bs. bs ++ more) at.taken_is ∙ append_assoc at.flushed at.behind more
+  all_taken : taken ++ more ≡ at.flushed ++ (at.after ++ more)
+  all_taken = ap (λ bs. bs ++ more) at.taken_is ∙ append_assoc at.flushed at.after more
 
   due_before : (m : ℕ) → Needs (take m events) at.flushed taken → m ≤ length events
       → Needs (take m all) at.flushed (taken ++ more)
@@ -186,16 +186,16 @@ module _ (events : List Event) (e : Event) (taken more : List ℕ) (least since 
       let P : List Event → Type 0 = λ es. Needs es at.flushed (taken ++ more) in
       let Q : List ℕ → Type 0 = λ bs. AreNeeded capture all bs in
       subst P (sym (ap (λ (n : ℕ). take n all) is ∙ take-length all)) (record {
-        between = at.behind ++ more;
+        between = at.after ++ more;
         rest = [];
-        taken_is = all_taken ∙ sym (append-nil (at.flushed ++ (at.behind ++ more)));
+        taken_is = all_taken ∙ sym (append-nil (at.flushed ++ (at.after ++ more)));
         needed = subst Q all_taken needed;
       })
 
   pub since_more : Since all (taken ++ more) least since
   since_more = record {
     flushed = at.flushed;
-    behind = at.behind ++ more;
+    after = at.after ++ more;
     taken_is = all_taken;
     since_is = at.since_is;
     came = at.came;
@@ -211,11 +211,11 @@ module _ (events : List Event) (e : Event) (taken more : List ℕ) (least since 
 pub few_later : (p : Progress) (events : List Event) (taken more : List ℕ) (least since m : ℕ)
     → Since events taken least since → IsReading p taken events
     → ((rest : List ℕ) → capture (taken ++ rest) ≡ then_events events (capture_from p rest))
-    → p.place < since + 4096 → ReaderNeeds p more → least + 4096 ≤ m → m ≤ length events
-    → AreFewBehind capture (take m events) (taken ++ more) most_behind
+    → p.offset < since + 4096 → ReaderNeeds p more → least + 4096 ≤ m → m ≤ length events
+    → AreFewAfter capture (take m events) (taken ++ more) most_after
 few_later p events taken more least since m at reading says near needed from most =
     let needs = at.due m (omega (arith, at.late, from)) most in
-    let few = few_behind p events taken more at.flushed since reading says at.since_is near needed in
+    let few = few_after p events taken more at.flushed since reading says at.since_is near needed in
     record {
       needed = at.flushed ++ needs.between;
       later = needs.rest ++ more;
@@ -234,9 +234,9 @@ few_later p events taken more least since m at reading says near needed from mos
 
 -- the last event needs all
 pub few_last : (events : List Event) (taken : List ℕ) (m : ℕ) → AreNeeded capture events taken → m ≡ length events
-    → AreFewBehind capture (take m events) taken most_behind
+    → AreFewAfter capture (take m events) taken most_after
 few_last events taken m needed is =
-    let P : List Event → Type 0 = λ es. AreFewBehind capture es taken most_behind in
+    let P : List Event → Type 0 = λ es. AreFewAfter capture es taken most_after in
     subst P (sym (ap (λ (n : ℕ). take n events) is ∙ take-length events)) (record {
       needed = taken;
       later = [];

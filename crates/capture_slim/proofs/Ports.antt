@@ -10,8 +10,9 @@ use Rattle.dead_drawing.specs.Dead.{is_droppable}
 use Rattle.capture_slim.specs.Places.{kept_of}
 use Rattle.capture_slim.specs.Stream.{leaving_from, staying_from}
 use Rattle.capture_slim.specs.Telling.{HoldPorts}
-use Rattle.capture_slim.specs.Window.{Window, settled, kept, kept_words, judged, dropped_words, open_words, taken_up}
-use Rattle.capture_slim.specs.Window.{with_event, with_word, added, heeded, pushed, left_of}
+use Rattle.capture_slim.specs.Window.{Window, settled, kept, kept_words, packet_slots, dropped_words, open_words}
+use Rattle.capture_slim.specs.Window.{taken_up}
+use Rattle.capture_slim.specs.Window.{with_event, with_word, added, effect_applied, pushed, left_of}
 use Rattle.capture_slim.specs.declared.queue.Queue.{Queue}
 use Rattle.capture_slim.specs.declared.slot.Mark.{Mark}
 use Rattle.capture_slim.specs.declared.slot.Mark.TheVariants.{Kept, Dropped, Open}
@@ -38,9 +39,9 @@ open_ports : (words : List ℕ) (i : ℕ) (area : Box2) → HoldPorts (open_word
 open_ports [] i area = tt
 open_ports (w ∷ ws) i area = (tt, open_ports ws (suc i) area)
 
-judged_ports : (words : List ℕ) (area : Option Box2) → HoldPorts (judged words area)
-judged_ports words None = dropped_ports words
-judged_ports words (Some area) = open_ports words 0 area
+packet_slots_ports : (words : List ℕ) (area : Option Box2) → HoldPorts (packet_slots words area)
+packet_slots_ports words None = dropped_ports words
+packet_slots_ports words (Some area) = open_ports words 0 area
 
 words_ports : (slots more : List Slot) (words : List ℕ) (part : Bool) → HoldPorts slots → HoldPorts more
     → HoldPorts (cond {A = Queue} part (record { slots = slots; words = words })
@@ -56,12 +57,13 @@ event_ports slots words e are port =
 
 word_ports : (words : List ℕ) (slots : List Slot) (word : ℕ) (idle : Bool) (area : Option Box2) → HoldPorts slots
     → HoldPorts (with_word slots words word idle area).slots
-word_ports (v ∷ vs) slots word idle area are = words_ports slots _ _ _ are (judged_ports ((v ∷ vs) ++ word ∷ []) area)
+word_ports (v ∷ vs) slots word idle area are =
+    words_ports slots _ _ _ are (packet_slots_ports ((v ∷ vs) ++ word ∷ []) area)
 word_ports [] slots word idle area are = by_test (idle && is_droppable word)
   where
     by_test : (b : Bool)
         → HoldPorts (cond b (taken_up slots (word ∷ []) area) (with_event slots [] (event.Gp0 word))).slots
-    by_test true = words_ports slots _ _ _ are (judged_ports (word ∷ []) area)
+    by_test true = words_ports slots _ _ _ are (packet_slots_ports (word ∷ []) area)
     by_test false = event_ports slots [] (event.Gp0 word) are tt
 
 added_ports : (q : Queue) (e : Event) (idle : Bool) (area : Option Box2) → HoldPorts q.slots → IsAtPorts e
@@ -72,7 +74,7 @@ added_ports q other idle area are port = event_ports q.slots q.words other are p
 pub pushed_ports : (w : Window) (e : Event) → HoldPorts w.slots → IsAtPorts e → HoldPorts (pushed w e).slots
 unfolding pushed
 pushed_ports w e are port =
-    added_ports (heeded w e) e _ _ (settled_ports w.slots (length w.words) w.control e are) port
+    added_ports (effect_applied w e) e _ _ (settled_ports w.slots (length w.words) w.control e are) port
 
 pub staying_ports : (slots : List Slot) (words : List ℕ) → HoldPorts slots → HoldPorts (staying_from slots words)
 staying_ports [] words are = tt

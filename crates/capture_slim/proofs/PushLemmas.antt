@@ -18,11 +18,11 @@ use Rattle.dead_drawing.specs.Control.{Control, controlled}
 use Rattle.dead_drawing.specs.Dead.{is_droppable}
 use Rattle.capture_slim.specs.Settling.{settled_by}
 use Rattle.capture_slim.specs.Stream.{staying, staying_from}
-use Rattle.capture_slim.specs.Saying.{said_at}
+use Rattle.capture_slim.specs.Effect.{event_effect}
 use Rattle.capture_slim.specs.declared.queue.Queue.{Queue}
 use Rattle.capture_slim.specs.Telling.{area_by, area_at, KeepsWindow}
-use Rattle.capture_slim.specs.Window.{Window, IsBegun, judged, within, taken_up, with_event, with_word, added}
-use Rattle.capture_slim.specs.Window.{area_behind, heeded, pushed}
+use Rattle.capture_slim.specs.Window.{Window, IsBegun, packet_slots, within, taken_up, with_event, with_word, added}
+use Rattle.capture_slim.specs.Window.{area_after, effect_applied, pushed}
 use Rattle.capture_slim.specs.declared.slot.Slot.{Slot}
 use Rattle.dead_drawing.proofs.Droppable.{Shape, polygon, rectangle, line, shape_of, plain_kind, packet_is}
 use Rattle.dead_drawing.proofs.PacketWords.{next_of, last_item}
@@ -34,7 +34,7 @@ use Rattle.capture_slim.proofs.WindowLaw.{IsTaken, taken_more, taken_first, push
 -- the area of an event is that of the words
 whole_area : (c : Control) (done : List ℕ) (word : ℕ) → IsTaken c done word → length (done ++ word ∷ [])
     ≡ first_len_of (slice_index (done ++ word ∷ []) 0)
-    → area_at c (event.Gp0 word) ≡ area_behind c done (event.Gp0 word)
+    → area_at c (event.Gp0 word) ≡ area_after c done (event.Gp0 word)
 whole_area c done word t whole =
     let words = done ++ word ∷ [] in
     let first = slice_index words 0 in
@@ -46,41 +46,41 @@ whole_area c done word t whole =
 
 taken_same : (slots : List Slot) (c : Control) (done : List ℕ) (word : ℕ) → IsTaken c done word
     → taken_up slots (done ++ word ∷ []) (area_at c (event.Gp0 word))
-    ≡ taken_up slots (done ++ word ∷ []) (area_behind c done (event.Gp0 word))
+    ≡ taken_up slots (done ++ word ∷ []) (area_after c done (event.Gp0 word))
 taken_same slots c done word t = by_test
     (ltb (length (done ++ word ∷ [])) (first_len_of (slice_index (done ++ word ∷ []) 0))) refl
   where
     by_test : (b : Bool) → ltb (length (done ++ word ∷ [])) (first_len_of (slice_index (done ++ word ∷ []) 0)) ≡ b
         → cond {A = Queue} b (record { slots = slots; words = done ++ word ∷ [] })
-        (record { slots = slots ++ judged (done ++ word ∷ []) (area_at c (event.Gp0 word)); words = [] })
+        (record { slots = slots ++ packet_slots (done ++ word ∷ []) (area_at c (event.Gp0 word)); words = [] })
         ≡ cond b (record { slots = slots; words = done ++ word ∷ [] })
-        (record { slots = slots ++ judged (done ++ word ∷ []) (area_behind c done (event.Gp0 word)); words = [] })
+        (record { slots = slots ++ packet_slots (done ++ word ∷ []) (area_after c done (event.Gp0 word)); words = [] })
     by_test true e = refl
     by_test false e =
-        ap {B = Queue} (λ (b : Option Box2). record { slots = slots ++ judged (done ++ word ∷ []) b; words = [] })
+        ap {B = Queue} (λ (b : Option Box2). record { slots = slots ++ packet_slots (done ++ word ∷ []) b; words = [] })
         (whole_area c done word t (omega (arith, t.fits, ltb-false _ _ e)))
 
 word_same : (words : List ℕ) (slots : List Slot) (c : Control) (word : ℕ) → IsBegun words c
     → with_word slots words word (is_idle c.pending) (area_at c (event.Gp0 word))
-    ≡ with_word slots words word (is_idle c.pending) (area_behind c words (event.Gp0 word))
+    ≡ with_word slots words word (is_idle c.pending) (area_after c words (event.Gp0 word))
 word_same (v ∷ vs) slots c word begun = taken_same slots c (v ∷ vs) word (taken_more c v vs word begun)
 word_same [] slots c word begun = by_test (is_idle c.pending && is_droppable word) refl
   where
     by_test : (b : Bool) → (is_idle c.pending && is_droppable word) ≡ b
         → cond b (taken_up slots (word ∷ []) (area_at c (event.Gp0 word))) (with_event slots [] (event.Gp0 word))
-        ≡ cond b (taken_up slots (word ∷ []) (area_behind c [] (event.Gp0 word))) (with_event slots [] (event.Gp0 word))
+        ≡ cond b (taken_up slots (word ∷ []) (area_after c [] (event.Gp0 word))) (with_event slots [] (event.Gp0 word))
     by_test true is = taken_same slots c [] word (taken_first c word is)
     by_test false is = refl
 
 added_same : (q : Queue) (c : Control) (e : Event) → IsBegun q.words c
-    → added q e (is_idle c.pending) (area_at c e) ≡ added q e (is_idle c.pending) (area_behind c q.words e)
+    → added q e (is_idle c.pending) (area_at c e) ≡ added q e (is_idle c.pending) (area_after c q.words e)
 added_same q c (event.Gp0 word) begun = word_same q.words q.slots c word begun
 added_same q c other begun = refl
 
 -- slots updated by the effect of an event, together with that event
 pub pushed_is : (old : Window) (e : Event) → IsBegun old.words old.control
     → within (added
-    (record { slots = settled_by old.slots (length old.words) (said_at old.control e); words = old.words })
+    (record { slots = settled_by old.slots (length old.words) (event_effect old.control e); words = old.words })
     e (is_idle old.control.pending) (area_at old.control e)) (controlled old.control e)
     ≡ pushed old e
 unfolding pushed
@@ -88,7 +88,7 @@ pushed_is old e begun =
     ap (λ (ss : List Slot). within (added (record { slots = ss; words = old.words }) e (is_idle old.control.pending)
     (area_at old.control e)) (controlled old.control e))
     (sym (settled_is_by old.slots (length old.words) old.control e))
-    ∙ ap (λ (q : Queue). within q (controlled old.control e)) (added_same (heeded old e) old.control e begun)
+    ∙ ap (λ (q : Queue). within q (controlled old.control e)) (added_same (effect_applied old e) old.control e begun)
 
 -- at most 4,096 events are left
 few_by : (slots : List Slot) (s : Slot) (words : List ℕ) (b : Bool) → ltb (length slots + length words) 4096 ≡ b

@@ -9,7 +9,7 @@ use Rattle.gpu_capture.specs.declared.event.Stop.TheVariants.{End}
 use Rattle.gpu_capture.proofs.Written.{written_read}
 use Rattle.event_play.specs.Alike.{AreAlike, replay_of}
 use Rattle.event_play.specs.Ports.{IsAtPorts, AreAtPorts}
-use Rattle.event_play.specs.Replay.{Played, played_capture, played_events, Tale, from_state, played_from, raised}
+use Rattle.event_play.specs.Replay.{Played, played_capture, played_events, Replay, from_state, played_from, raised}
 use Rattle.event_play.specs.Replay.{tall_version}
 use Rattle.event_play.specs.Step.{first_machine, tall_machine}
 use Rattle.dead_drawing.specs.Control.{Control, controlled, first_control}
@@ -100,17 +100,17 @@ module _ (version : ℕ) (taken : List ℕ) (events : List Event) (some : 1 ≤ 
   plays : (es : List Event) (bytes after : List ℕ)
       → capture bytes ≡ record { version = version; events = es; ending = End; rest = after }
       → ((played_capture first bytes).ending ≡ (replay_of (machine_for version) es).ending)
-      × ((played_capture first bytes).tale ≡ (replay_of (machine_for version) es).tale)
+      × ((played_capture first bytes).replay ≡ (replay_of (machine_for version) es).replay)
   plays es bytes after is =
       let played : played_capture first bytes ≡ played_events (from_state (machine_for version) 0) es End after =
       ap (played_from first) is ∙ ap (λ t. played_events t es End after) (raised_is version) in
       let same = rest_same es (from_state (machine_for version) 0) after in (
         ap (λ (r : Played). r.ending) played ∙ same.0,
-        ap (λ (r : Played). r.tale) played ∙ same.1,
+        ap (λ (r : Played). r.replay) played ∙ same.1,
       )
 
   pub is_slim : (rest : List ℕ)
-      → IsFlatCapture first (played_capture first (taken ++ rest)).tale version slim (slim_file version events)
+      → IsFlatCapture first (played_capture first (taken ++ rest)).replay version slim (slim_file version events)
   is_slim rest =
       let law = slim_law version events ports in
       let whole = plays events (taken ++ rest) rest (says rest) in
@@ -119,8 +119,8 @@ module _ (version : ℕ) (taken : List ℕ) (events : List Event) (some : 1 ≤ 
         reads = reads;
         whole = λ after. (plays slim (slim_file version events ++ after) after (reads after)).0 ∙ law.0;
         alike = λ after.
-            let P : Tale → Type 0 = λ a. AreAlike a (played_capture first (taken ++ rest)).tale in
-            let Q : Tale → Type 0 = λ b. AreAlike (replay_of (machine_for version) slim).tale b in
+            let P : Replay → Type 0 = λ a. AreAlike a (played_capture first (taken ++ rest)).replay in
+            let Q : Replay → Type 0 = λ b. AreAlike (replay_of (machine_for version) slim).replay b in
             subst P (sym (plays slim (slim_file version events ++ after) after (reads after)).1)
             (subst Q (sym whole.1) law.2);
       }

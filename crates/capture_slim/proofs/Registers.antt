@@ -12,17 +12,17 @@ use Rattle.gpu_capture.specs.declared.event.Event.TheVariants as event
 use Rattle.gpu_core.proofs.Fed.{register_packet}
 use Rattle.prim_draw.specs.Areas.{area_of}
 use Rattle.dead_drawing.specs.Control.{Control, controlled, regs_after}
-use Rattle.capture_slim.specs.Saying.{said, said_at, said_by}
+use Rattle.capture_slim.specs.Effect.{packet_effect, event_effect, item_effect}
 use Rattle.capture_slim.specs.Telling.{area_at, area_by}
-use Rattle.capture_slim.specs.declared.saying.Saying.TheVariants.{Quiet}
+use Rattle.capture_slim.specs.declared.effect.Effect.TheVariants.{Nothing}
 
-said_of : (b : Bool) (i v : ℕ) → said (cond b (packet.Env i v) packet.Nop) ≡ Quiet
-said_of true i v = refl
-said_of false i v = refl
+effect_of : (b : Bool) (i v : ℕ) → packet_effect (cond b (packet.Env i v) packet.Nop) ≡ Nothing
+effect_of true i v = refl
+effect_of false i v = refl
 
-environment_said : (word : ℕ) → said (environment_of word) ≡ Quiet
+environment_effect : (word : ℕ) → packet_effect (environment_of word) ≡ Nothing
 unfolding environment_of
-environment_said word = said_of _ _ _
+environment_effect word = effect_of _ _ _
 
 area_none : (r : Registers) (b : Bool) (i v : ℕ) → area_of r (cond b (packet.Env i v) packet.Nop) ≡ None
 unfolding area_of
@@ -34,8 +34,8 @@ unfolding environment_of
 environment_area r word = area_none r _ _ _
 
 -- the effect of a word by the item that it completes
-pub record IsQuiet (c : Control) (word : ℕ) : Type 0 where
-  pub saying : Quiet ≡ said_at c (event.Gp0 word)
+pub record ReadsNothing (c : Control) (word : ℕ) : Type 0 where
+  pub effect : Nothing ≡ event_effect c (event.Gp0 word)
   pub area : None ≡ area_at c (event.Gp0 word)
 
 pub inside_control : (c : Control) (new : Pending) (word : ℕ) → IsPushed c.pending new word None
@@ -44,14 +44,14 @@ unfolding controlled
 inside_control c new word push = rw (← push.decided, ← push.pending) refl
 
 -- a word of a register
-pub register_quiet : (c : Control) (word : ℕ) → IsPushed c.pending c.pending word (Some (item.Whole (word ∷ [])))
+pub register_no_effect : (c : Control) (word : ℕ) → IsPushed c.pending c.pending word (Some (item.Whole (word ∷ [])))
     → word / 2 ^ 29 ≡ 7
-    → IsQuiet c word
-register_quiet c word push class =
+    → ReadsNothing c word
+register_no_effect c word push class =
     let is = register_packet c.regs.height word class in
     record {
-      saying = sym (environment_said word) ∙ ap said (sym is)
-          ∙ ap (λ (i : Option Item). said_by c.regs.height i) push.decided;
+      effect = sym (environment_effect word) ∙ ap packet_effect (sym is)
+          ∙ ap (λ (i : Option Item). item_effect c.regs.height i) push.decided;
       area = sym (environment_area c.regs word) ∙ ap (area_of c.regs) (sym is)
           ∙ ap (λ (i : Option Item). area_by c.regs i) push.decided;
     }

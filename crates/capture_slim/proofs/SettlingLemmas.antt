@@ -15,14 +15,15 @@ use Rattle.gpu_capture.specs.declared.event.Event.{Event}
 use Rattle.gpu_capture.specs.declared.event.Event.TheVariants as event
 use Rattle.prim_draw.specs.Areas.{moved_box}
 use Rattle.dead_drawing.specs.Control.{Control}
-use Rattle.capture_slim.specs.Saying.{cover_of, loud_if, said, said_by, said_at, covers, is_quiet, settle_by}
+use Rattle.capture_slim.specs.Effect.{cover_of, may_read_if, packet_effect, item_effect, event_effect, covers}
+use Rattle.capture_slim.specs.Effect.{reads_nothing, settle_by}
 use Rattle.capture_slim.specs.Settling.{IsSettled, AreSettled, KeepsSlots, all_shut, shut, mark_of, settled_by, turned}
 use Rattle.dead_drawing.specs.Dead.{holds_in, fills, fills_by, fills_at, is_calm, is_calm_by, is_calm_at}
-use Rattle.capture_slim.specs.Window.{left_of, dropped_words, judged, kept_words, open_words, settle, settled}
+use Rattle.capture_slim.specs.Window.{left_of, dropped_words, packet_slots, kept_words, open_words, settle, settled}
 use Rattle.capture_slim.specs.Places.{kept_of}
 use Rattle.capture_slim.specs.Stream.{first_left, leaving_from, staying_from}
-use Rattle.capture_slim.specs.declared.saying.Saying.{Saying}
-use Rattle.capture_slim.specs.declared.saying.Saying.TheVariants.{Quiet, Loud, Cover}
+use Rattle.capture_slim.specs.declared.effect.Effect.{Effect}
+use Rattle.capture_slim.specs.declared.effect.Effect.TheVariants.{Nothing, MayRead, Cover}
 use Rattle.capture_slim.specs.declared.slot.Mark.{Mark}
 use Rattle.capture_slim.specs.declared.slot.Mark.TheVariants.{Kept, Dropped, Open}
 use Rattle.capture_slim.specs.declared.slot.Slot.{Slot}
@@ -30,78 +31,82 @@ use Rattle.capture_slim.specs.declared.slot.Slot.{Slot}
 -- ---- effects
 
 -- an effect, as the two tests that define it
-record Says (say : Saying) (b : Box2) (filling calming : Bool) : Type 0 where
+record Says (say : Effect) (b : Box2) (filling calming : Bool) : Type 0 where
   fill : covers say b ≡ filling
-  calm : is_quiet say ≡ calming
+  calm : reads_nothing say ≡ calming
 
 cover_says : (area : Option Box2) (b : Box2) → Says (cover_of area) b (holds_in area b) true
 cover_says None b = record { fill = refl; calm = refl }
 cover_says (Some area) b = record { fill = refl; calm = refl }
 
-loud_says : (textured : Bool) (b : Box2) → Says (loud_if textured) b false (not textured)
-loud_says true b = record { fill = refl; calm = refl }
-loud_says false b = record { fill = refl; calm = refl }
+may_read_says : (textured : Bool) (b : Box2) → Says (may_read_if textured) b false (not textured)
+may_read_says true b = record { fill = refl; calm = refl }
+may_read_says false b = record { fill = refl; calm = refl }
 
-packet_says : (what : Packet) (b : Box2) → Says (said what) b (fills what b) (is_calm what)
+packet_says : (what : Packet) (b : Box2) → Says (packet_effect what) b (fills what b) (is_calm what)
 packet_says (packet.Fill color x y w h) b = cover_says (moved_box x y w h) b
-packet_says (packet.Poly four a b c d shaded textured semi raw clut page) box = loud_says textured box
-packet_says (packet.Rect x y w h color textured semi raw u v clut) b = loud_says textured b
+packet_says (packet.Poly four a b c d shaded textured semi raw clut page) box = may_read_says textured box
+packet_says (packet.Rect x y w h color textured semi raw u v clut) b = may_read_says textured b
 packet_says other b = record { fill = refl; calm = refl }
 
 item_says : (height : ℕ) (item : Option Item) (b : Box2)
-    → Says (said_by height item) b (fills_by height item b) (is_calm_by height item)
+    → Says (item_effect height item) b (fills_by height item b) (is_calm_by height item)
 item_says height None b = record { fill = refl; calm = refl }
 item_says height (Some item) b = packet_says (packet_of height item) b
 
-event_says : (c : Control) (e : Event) (b : Box2) → Says (said_at c e) b (fills_at c e b) (is_calm_at c e)
+event_says : (c : Control) (e : Event) (b : Box2) → Says (event_effect c e) b (fills_at c e b) (is_calm_at c e)
 event_says c (event.Gp0 word) b = item_says c.regs.height (next_item c.pending word) b
 event_says c other b = record { fill = refl; calm = refl }
 
-open_by : (b : Box2) (i age : ℕ) (say : Saying) → cond (covers say b) (cond (ltb (age + i) 4096) Dropped Kept)
-    (cond (is_quiet say) (Open b i) Kept) ≡ settle_by (Open b i) age say
-open_by b i age Quiet = refl
-open_by b i age Loud = refl
+open_by : (b : Box2) (i age : ℕ) (say : Effect) → cond (covers say b) (cond (ltb (age + i) 4096) Dropped Kept)
+    (cond (reads_nothing say) (Open b i) Kept) ≡ settle_by (Open b i) age say
+open_by b i age Nothing = refl
+open_by b i age MayRead = refl
 open_by b i age (Cover area) = refl
 
-mark_by : (mark : Mark) (age : ℕ) (c : Control) (e : Event) → settle mark age c e ≡ settle_by mark age (said_at c e)
+mark_by : (mark : Mark) (age : ℕ) (c : Control) (e : Event)
+    → settle mark age c e ≡ settle_by mark age (event_effect c e)
 mark_by Kept age c e = refl
 mark_by Dropped age c e = refl
 mark_by (Open b i) age c e =
     let says = event_says c e b in
     ap (λ (t : Bool). cond t (cond (ltb (age + i) 4096) Dropped Kept) (cond (is_calm_at c e) (Open b i) Kept))
     (sym says.fill)
-    ∙ ap (λ (t : Bool). cond (covers (said_at c e) b) (cond (ltb (age + i) 4096) Dropped Kept)
+    ∙ ap (λ (t : Bool). cond (covers (event_effect c e) b) (cond (ltb (age + i) 4096) Dropped Kept)
     (cond t (Open b i) Kept)) (sym says.calm)
-    ∙ open_by b i age (said_at c e)
+    ∙ open_by b i age (event_effect c e)
 
-pub settled_is_by : (slots : List Slot) (behind : ℕ) (c : Control) (e : Event) → settled slots behind c e
-    ≡ settled_by slots behind (said_at c e)
-settled_is_by [] behind c e = refl
-settled_is_by (s ∷ slots) behind c e =
-    ap (λ (m : Mark). record { event = s.event; mark = m } ∷ settled slots behind c e)
-    (mark_by s.mark (length slots + behind) c e)
-    ∙ ap (λ (ss : List Slot). record { event = s.event; mark = settle_by s.mark (length slots + behind) (said_at c e) }
-    ∷ ss) (settled_is_by slots behind c e)
+pub settled_is_by : (slots : List Slot) (after : ℕ) (c : Control) (e : Event) → settled slots after c e
+    ≡ settled_by slots after (event_effect c e)
+settled_is_by [] after c e = refl
+settled_is_by (s ∷ slots) after c e =
+    ap (λ (m : Mark). record { event = s.event; mark = m } ∷ settled slots after c e)
+    (mark_by s.mark (length slots + after) c e)
+    ∙ ap (λ (ss : List Slot). record {
+      event = s.event;
+      mark = settle_by s.mark (length slots + after) (event_effect c e);
+    }
+    ∷ ss) (settled_is_by slots after c e)
 
 -- ---- slot by slot
 
-pub settled_by_long : (slots : List Slot) (behind : ℕ) (say : Saying) → length (settled_by slots behind say)
+pub settled_by_long : (slots : List Slot) (after : ℕ) (say : Effect) → length (settled_by slots after say)
     ≡ length slots
-settled_by_long [] behind say = refl
-settled_by_long (s ∷ slots) behind say = ap suc (settled_by_long slots behind say)
+settled_by_long [] after say = refl
+settled_by_long (s ∷ slots) after say = ap suc (settled_by_long slots after say)
 
 -- one more slot at the end
-pub settled_by_push : (slots : List Slot) (s : Slot) (behind : ℕ) (say : Saying)
-    → settled_by (slots ++ s ∷ []) behind say ≡ settled_by slots (suc behind) say
-    ++ record { event = s.event; mark = settle_by s.mark behind say } ∷ []
-settled_by_push [] s behind say = let age : 0 + behind ≡ behind = omega arith in rw age refl
-settled_by_push (x ∷ slots) s behind say =
-    let age : length (slots ++ s ∷ []) + behind ≡ length slots + suc behind = omega
+pub settled_by_push : (slots : List Slot) (s : Slot) (after : ℕ) (say : Effect)
+    → settled_by (slots ++ s ∷ []) after say ≡ settled_by slots (suc after) say
+    ++ record { event = s.event; mark = settle_by s.mark after say } ∷ []
+settled_by_push [] s after say = let age : 0 + after ≡ after = omega arith in rw age refl
+settled_by_push (x ∷ slots) s after say =
+    let age : length (slots ++ s ∷ []) + after ≡ length slots + suc after = omega
     (arith, length-append slots (s ∷ [])) in
-    ap (λ (n : ℕ). record { event = x.event; mark = settle_by x.mark n say } ∷ settled_by (slots ++ s ∷ []) behind say)
+    ap (λ (n : ℕ). record { event = x.event; mark = settle_by x.mark n say } ∷ settled_by (slots ++ s ∷ []) after say)
     age
-    ∙ ap (λ (ss : List Slot). record { event = x.event; mark = settle_by x.mark (length slots + suc behind) say } ∷ ss)
-    (settled_by_push slots s behind say)
+    ∙ ap (λ (ss : List Slot). record { event = x.event; mark = settle_by x.mark (length slots + suc after) say } ∷ ss)
+    (settled_by_push slots s after say)
 
 -- what fits is kept
 pub keep_all : {X : Type 0} (n : ℕ) (xs : List X) → length xs ≤ n → keep_last n xs ≡ xs
@@ -113,7 +118,7 @@ goes_last b now s lt is = is ∙ ap (λ (l : List Slot). buffer l b.capacity)
     (keep_all b.capacity (b.items ++ s ∷ []) (omega (arith, lt, length-append b.items (s ∷ []))))
 
 -- the first of some slots is updated and moved to the end
-pub turned_is : (items : List Slot) (s : Slot) (n age : ℕ) (say : Saying) → Some s ≡ slice_get items 0
+pub turned_is : (items : List Slot) (s : Slot) (n age : ℕ) (say : Effect) → Some s ≡ slice_get items 0
     → length items ≤ n
     → keep_last n (drop 1 items ++ record { event = s.event; mark = settle_by s.mark age say } ∷ [])
     ≡ turned items age say
@@ -124,53 +129,53 @@ turned_is (x ∷ items) s n age say e le =
     (omega (arith, le, length-append items (record { event = s.event; mark = settle_by s.mark age say } ∷ [])))
     ∙ ap (λ (y : Slot). items ++ record { event = y.event; mark = settle_by y.mark age say } ∷ []) same
 
-turned_split : (settled_ones back : List Slot) (s : Slot) (age : ℕ) (say : Saying)
+turned_split : (settled_ones back : List Slot) (s : Slot) (age : ℕ) (say : Effect)
     → turned ((s ∷ back) ++ settled_ones) age say
     ≡ back ++ (settled_ones ++ record { event = s.event; mark = settle_by s.mark age say } ∷ [])
 turned_split settled_ones back s age say = append_assoc back settled_ones
     (record { event = s.event; mark = settle_by s.mark age say } ∷ [])
 
 -- one more slot of the front is updated
-pub turned_next : (items : List Slot) (i behind age : ℕ) (say : Saying) → i < length items
-    → age ≡ length items - (i + 1) + behind
-    → turned (drop i items ++ settled_by (take i items) (length items - i + behind) say) age say
-    ≡ drop (i + 1) items ++ settled_by (take (i + 1) items) (length items - (i + 1) + behind) say
-turned_next items i behind age say lt is =
+pub turned_next : (items : List Slot) (i after age : ℕ) (say : Effect) → i < length items
+    → age ≡ length items - (i + 1) + after
+    → turned (drop i items ++ settled_by (take i items) (length items - i + after) say) age say
+    ≡ drop (i + 1) items ++ settled_by (take (i + 1) items) (length items - (i + 1) + after) say
+turned_next items i after age say lt is =
     let d : Slot = record { event = event.Read; mark = Kept } in
     let s = get_or items i d in
     let first : drop i items ≡ s ∷ drop (i + 1) items = drop_more items i d lt in
     let front : take (i + 1) items ≡ take i items ++ s ∷ [] = take_more items i d lt in
-    let more : length items - i + behind ≡ suc age = omega (arith, lt, is) in
-    let same : length items - (i + 1) + behind ≡ age = sym is in
+    let more : length items - i + after ≡ suc age = omega (arith, lt, is) in
+    let same : length items - (i + 1) + after ≡ age = sym is in
     rw (first, front, more, same)
     (turned_split (settled_by (take i items) (suc age) say) (drop (i + 1) items) s age say
     ∙ ap (λ (ss : List Slot). drop (i + 1) items ++ ss) (sym (settled_by_push (take i items) s age say)))
 
 -- ---- effects that leave slots as they are, or make them stay
 
-quiet_mark : (mark : Mark) (age : ℕ) → settle_by mark age Quiet ≡ mark
-quiet_mark Kept age = refl
-quiet_mark Dropped age = refl
-quiet_mark (Open b i) age = refl
+no_effect_mark : (mark : Mark) (age : ℕ) → settle_by mark age Nothing ≡ mark
+no_effect_mark Kept age = refl
+no_effect_mark Dropped age = refl
+no_effect_mark (Open b i) age = refl
 
-pub quiet_stays : (slots : List Slot) (behind : ℕ) → settled_by slots behind Quiet ≡ slots
-quiet_stays [] behind = refl
-quiet_stays (s ∷ slots) behind =
-    ap (λ (m : Mark). record { event = s.event; mark = m } ∷ settled_by slots behind Quiet)
-    (quiet_mark s.mark (length slots + behind))
-    ∙ ap (λ (ss : List Slot). s ∷ ss) (quiet_stays slots behind)
+pub no_effect_stays : (slots : List Slot) (after : ℕ) → settled_by slots after Nothing ≡ slots
+no_effect_stays [] after = refl
+no_effect_stays (s ∷ slots) after =
+    ap (λ (m : Mark). record { event = s.event; mark = m } ∷ settled_by slots after Nothing)
+    (no_effect_mark s.mark (length slots + after))
+    ∙ ap (λ (ss : List Slot). s ∷ ss) (no_effect_stays slots after)
 
-loud_mark : (mark : Mark) (age : ℕ) → settle_by mark age Loud ≡ settle_by mark 0 Loud
-loud_mark Kept age = refl
-loud_mark Dropped age = refl
-loud_mark (Open b i) age = refl
+may_read_mark : (mark : Mark) (age : ℕ) → settle_by mark age MayRead ≡ settle_by mark 0 MayRead
+may_read_mark Kept age = refl
+may_read_mark Dropped age = refl
+may_read_mark (Open b i) age = refl
 
-pub loud_shuts : (slots : List Slot) (behind : ℕ) → settled_by slots behind Loud ≡ all_shut slots
-loud_shuts [] behind = refl
-loud_shuts (s ∷ slots) behind =
-    ap (λ (m : Mark). record { event = s.event; mark = m } ∷ settled_by slots behind Loud)
-    (loud_mark s.mark (length slots + behind))
-    ∙ ap (λ (ss : List Slot). shut s ∷ ss) (loud_shuts slots behind)
+pub may_read_shuts : (slots : List Slot) (after : ℕ) → settled_by slots after MayRead ≡ all_shut slots
+may_read_shuts [] after = refl
+may_read_shuts (s ∷ slots) after =
+    ap (λ (m : Mark). record { event = s.event; mark = m } ∷ settled_by slots after MayRead)
+    (may_read_mark s.mark (length slots + after))
+    ∙ ap (λ (ss : List Slot). shut s ∷ ss) (may_read_shuts slots after)
 
 pub shut_push : (slots : List Slot) (s : Slot) → all_shut (slots ++ s ∷ []) ≡ all_shut slots ++ shut s ∷ []
 shut_push [] s = refl
@@ -180,7 +185,7 @@ pub shut_long : (slots : List Slot) → length (all_shut slots) ≡ length slots
 shut_long [] = refl
 shut_long (s ∷ slots) = ap suc (shut_long slots)
 
-shut_settled : (mark : Mark) → IsSettled (settle_by mark 0 Loud)
+shut_settled : (mark : Mark) → IsSettled (settle_by mark 0 MayRead)
 shut_settled Kept = tt
 shut_settled Dropped = tt
 shut_settled (Open b i) = tt
@@ -193,19 +198,19 @@ pub all_shut_settled : (slots : List Slot) → AreSettled (all_shut slots)
 all_shut_settled [] = tt
 all_shut_settled (s ∷ slots) = (shut_settled s.mark, all_shut_settled slots)
 
-settled_mark : (mark : Mark) (age : ℕ) (say : Saying) → IsSettled mark → settle_by mark age say ≡ mark
+settled_mark : (mark : Mark) (age : ℕ) (say : Effect) → IsSettled mark → settle_by mark age say ≡ mark
 settled_mark Kept age say is = refl
 settled_mark Dropped age say is = refl
 settled_mark (Open b i) age say is = absurd is
 
 -- slots with final marks stay as they are
-pub settled_first : (first last : List Slot) (behind : ℕ) (say : Saying) → AreSettled first
-    → settled_by (first ++ last) behind say ≡ first ++ settled_by last behind say
-settled_first [] last behind say are = refl
-settled_first (s ∷ first) last behind say are =
-    ap (λ (m : Mark). record { event = s.event; mark = m } ∷ settled_by (first ++ last) behind say)
-    (settled_mark s.mark (length (first ++ last) + behind) say are.0)
-    ∙ ap (λ (ss : List Slot). s ∷ ss) (settled_first first last behind say are.1)
+pub settled_first : (first last : List Slot) (after : ℕ) (say : Effect) → AreSettled first
+    → settled_by (first ++ last) after say ≡ first ++ settled_by last after say
+settled_first [] last after say are = refl
+settled_first (s ∷ first) last after say are =
+    ap (λ (m : Mark). record { event = s.event; mark = m } ∷ settled_by (first ++ last) after say)
+    (settled_mark s.mark (length (first ++ last) + after) say are.0)
+    ∙ ap (λ (ss : List Slot). s ∷ ss) (settled_first first last after say are.1)
 
 -- ---- words at the end
 
@@ -227,10 +232,11 @@ open_push [] w i n b e = let same : n ≡ i = omega (arith, e) in rw same refl
 open_push (v ∷ vs) w i n b e = ap (λ (ss : List Slot). record { event = event.Gp0 v; mark = Open b i } ∷ ss)
     (open_push vs w (suc i) n b (omega (arith, e)))
 
-pub judged_push : (area : Option Box2) (words : List ℕ) (w n : ℕ) → n ≡ length words → judged (words ++ w ∷ []) area
-    ≡ judged words area ++ record { event = event.Gp0 w; mark = mark_of area n } ∷ []
-judged_push None words w n e = dropped_push words w
-judged_push (Some b) words w n e = open_push words w 0 n b (omega (arith, e))
+pub packet_slots_push : (area : Option Box2) (words : List ℕ) (w n : ℕ) → n ≡ length words
+    → packet_slots (words ++ w ∷ []) area
+    ≡ packet_slots words area ++ record { event = event.Gp0 w; mark = mark_of area n } ∷ []
+packet_slots_push None words w n e = dropped_push words w
+packet_slots_push (Some b) words w n e = open_push words w 0 n b (omega (arith, e))
 
 -- ---- slots that move
 

@@ -8,7 +8,7 @@ use Rattle.dead_drawing.specs.Dead.{dead_len}
 use Rattle.dead_drawing.specs.Slim.{slim_events, slim_from, kept_by}
 use Rattle.capture_slim.specs.Places.{PlacesLaw, places, places_from, placed_by, kept_of}
 use Rattle.capture_slim.specs.Stream.{StreamLaw, LeavesLaw, leaving, leaving_from, staying, staying_from, outs}
-use Rattle.capture_slim.specs.Stream.{window_behind}
+use Rattle.capture_slim.specs.Stream.{window_after}
 use Rattle.capture_slim.specs.Window.{Window, IsBegun, first_window, left_of, pushed, value}
 use Rattle.capture_slim.specs.declared.slot.Slot.{Slot}
 use Rattle.capture_slim.proofs.WindowLaw.{one_more, pushed_begun, leaving_law, end_law}
@@ -53,24 +53,24 @@ left_is [] words c more = refl
 left_is (s ∷ slots) words c more = left_by slots s words c more _ refl
 
 pub outs_are : (events more : List Event) (w : Window) → IsBegun w.words w.control
-    → value w (events ++ more) ≡ outs events w ++ value (window_behind events w) more
+    → value w (events ++ more) ≡ outs events w ++ value (window_after events w) more
 outs_are [] more w begun = refl
 outs_are (e ∷ events) more w begun =
     let p = pushed w e in
     one_more w e (events ++ more) begun
     ∙ left_is p.slots p.words p.control (events ++ more)
     ∙ ap (λ (es : Outs). leaving p ++ es) (outs_are events more (staying p) (pushed_begun w e begun))
-    ∙ sym (append_assoc (leaving p) (outs events (staying p)) (value (window_behind events (staying p)) more))
+    ∙ sym (append_assoc (leaving p) (outs events (staying p)) (value (window_after events (staying p)) more))
 
-pub behind_begun : (events : List Event) (w : Window) → IsBegun w.words w.control
-    → IsBegun (window_behind events w).words (window_behind events w).control
-behind_begun [] w begun = begun
-behind_begun (e ∷ events) w begun = behind_begun events (staying (pushed w e)) (pushed_begun w e begun)
+pub after_begun : (events : List Event) (w : Window) → IsBegun w.words w.control
+    → IsBegun (window_after events w).words (window_after events w).control
+after_begun [] w begun = begun
+after_begun (e ∷ events) w begun = after_begun events (staying (pushed w e)) (pushed_begun w e begun)
 
 pub leaves_law : LeavesLaw
 unfolding places
 leaves_law height events more =
-    (value (window_behind events (first_window height)) more, outs_are events more (first_window height) tt)
+    (value (window_after events (first_window height)) more, outs_are events more (first_window height) tt)
 
 pub stream_law : StreamLaw
 unfolding places
@@ -78,4 +78,4 @@ stream_law height events =
     ap (λ (es : List Event). places_from es (first_control height) 0) (sym (append-nil events))
     ∙ outs_are events [] (first_window height) tt
     ∙ ap (λ (es : Outs). outs events (first_window height) ++ es)
-    (end_law (window_behind events (first_window height)) (behind_begun events (first_window height) tt))
+    (end_law (window_after events (first_window height)) (after_begun events (first_window height) tt))

@@ -11,7 +11,7 @@ use Rattle.gpu_capture.specs.Written.{spell}
 use Rattle.gpu_capture.proofs.Spelled.{spell-append}
 use Rattle.capture_slim.specs.Passing.{FailsAt, IsTooLong, Streams, Way, passed_on}
 use Rattle.capture_slim.specs.Places.{kept_of, places, slim_first}
-use Rattle.capture_slim.specs.Stream.{DueLaw, window_behind, outs, staying}
+use Rattle.capture_slim.specs.Stream.{DueLaw, window_after, outs, staying}
 use Rattle.capture_slim.specs.Window.{IsBegun, Window, first_window, pushed}
 use Rattle.capture_slim.specs.declared.ending.SlimEnding.TheVariants.{TooLong}
 use Rattle.capture_slim.proofs.Firsts.{counts, pushed_size, size}
@@ -22,14 +22,14 @@ use Rattle.capture_slim.proofs.WindowLaw.{pushed_begun}
 
 -- ---- at most 4,096 events wait
 
-few_behind : (events : List Event) (w : Window) → IsBegun w.words w.control → size w ≤ 4096
-    → size (window_behind events w) ≤ 4096
-few_behind [] w begun few = few
-few_behind (e ∷ events) w begun few =
+few_after : (events : List Event) (w : Window) → IsBegun w.words w.control → size w ≤ 4096
+    → size (window_after events w) ≤ 4096
+few_after [] w begun few = few
+few_after (e ∷ events) w begun few =
     let p = pushed w e in
     let next = pushed_begun w e begun in
     let most = few_words p.words p.control next in
-    few_behind events (staying p) next
+    few_after events (staying p) next
     (few_stay p.slots p.words (omega (arith, few, pushed_size w e)) (omega (arith, most)))
 
 -- ---- events that are 4,096 events old are final
@@ -38,7 +38,7 @@ pub due_law : DueLaw
 due_law height number events more le =
     let w = first_window height in
     let gone = outs events w in
-    let long : number ≤ length gone = omega (arith, le, counts events w, few_behind events w tt (omega arith)) in
+    let long : number ≤ length gone = omega (arith, le, counts events w, few_after events w tt (omega arith)) in
     let first : (later : List Event) → take number (places height (events ++ later)) ≡ take number gone =
     λ later.
     let all = leaves_law height events later in

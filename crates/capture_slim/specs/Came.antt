@@ -12,7 +12,7 @@ use Rattle.dead_drawing.specs.Dead.{window_events}
 use Rattle.dead_drawing.specs.Laws.{height_for}
 use Rattle.capture_slim.specs.File.{AreFrom, IsDraft, head_at}
 use Rattle.capture_slim.specs.Passing.{FailsAt, IsAmongLast, Passed, WritesAll, WritesPart, slim_file}
-use Rattle.capture_slim.specs.Stream.{outs, window_behind}
+use Rattle.capture_slim.specs.Stream.{outs, window_after}
 use Rattle.capture_slim.specs.Window.{Window, first_window, waiting}
 use Rattle.capture_slim.specs.declared.ending.SlimEnding.{SlimEnding}
 use Rattle.capture_slim.specs.declared.ending.SlimEnding.TheVariants.{Done, Stopped, NotFlat, TooLong, WriteFailed}
@@ -37,13 +37,13 @@ pub record Came (passed : Passed) (window : Window) (draft : Draft) (count : ℕ
   pub ports : AreAtPorts passed.events
   pub words : HoldWords passed.events
   pub version_is : draft.file.version ≡ passed.version
-  pub window_is : window ≡ window_behind passed.events (window_for passed)
+  pub window_is : window ≡ window_after passed.events (window_for passed)
   pub count_is : count ≡ length passed.events
   pub draft_is : IsDraft draft passed.base held (outs passed.events (window_for passed))
 
 -- the buffered records, and those of the waiting events, belong to event `least` or later ones
-pub record GathersFrom (least : ℕ) (window : Window) (draft : Draft) (count : ℕ) : Type 0 where
-  pub gathered : AreFrom least draft.gathered
+pub record BuffersFrom (least : ℕ) (window : Window) (draft : Draft) (count : ℕ) : Type 0 where
+  pub buffered : AreFrom least draft.buffered
   pub later : least + length (waiting window) ≤ count + 1
 
 -- at most as many events wait as were read, and `count` is below 2^60
@@ -74,14 +74,14 @@ pub record FailsNow (passed : Passed) (held : Option (List ℕ)) (number : ℕ) 
   pub fails : FailsAt passed held number ending
 
 -- a record that had to be written at the last event or before was not written completely
-pub record FailsBehind (passed : Passed) (held : Option (List ℕ)) (number : ℕ) (ending : SlimEnding) : Type 0 where
+pub record FailsAfter (passed : Passed) (held : Option (List ℕ)) (number : ℕ) (ending : SlimEnding) : Type 0 where
   pub due : number + window_events ≤ length passed.events
   pub fails : FailsAt passed held number ending
 
 -- the ending caused by a port event
 abbrev pub EndsPushed : Passed → (held : Option (List ℕ)) → SlimEnding → Type 0
 EndsPushed passed held (TooLong number) = FailsNow passed held number (TooLong number)
-EndsPushed passed held (WriteFailed number) = FailsBehind passed held number (WriteFailed number)
+EndsPushed passed held (WriteFailed number) = FailsAfter passed held number (WriteFailed number)
 EndsPushed passed held ending = ⊥
 
 -- the ending caused by any event

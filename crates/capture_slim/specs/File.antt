@@ -86,8 +86,8 @@ pub record FailsIn (output : Output) (outs : List (Option Event)) (number : ℕ)
 -- The events that stay are written or buffered: the sink has them once the buffer is flushed. If the flush fails, one
 -- of them was not written completely.
 pub record IsDraft (draft : Draft) (base held : Option (List ℕ)) (outs : List (Option Event)) : Type 0 where
-  pub file_is : IsFile draft.file base (appended held (bytes_of draft.gathered)) (kept_of outs)
-  pub lacks : (now : Option (List ℕ)) (number : ℕ) → BreaksOff draft.gathered held now number
+  pub file_is : IsFile draft.file base (appended held (bytes_of draft.buffered)) (kept_of outs)
+  pub lacks : (now : Option (List ℕ)) (number : ℕ) → BreaksOff draft.buffered held now number
       → FailsIn (output_of draft base now) outs number (WriteFailed number)
 
 -- the buffer was flushed at a record that would make the file too long, or the flush failed

@@ -2,7 +2,7 @@ pub mod Came
 pub mod File
 pub mod Passing
 pub mod Places
-pub mod Saying
+pub mod Effect
 pub mod Settling
 pub mod Stream
 pub mod Telling

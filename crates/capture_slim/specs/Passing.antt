@@ -8,14 +8,14 @@ use Rattle.gpu_capture.specs.declared.event.Event.{Event}
 use Rattle.gpu_capture.specs.declared.event.Stop.{Stop}
 use Rattle.gpu_capture.specs.declared.event.Stop.TheVariants.{End, ReadFault}
 use Rattle.event_play.specs.Ends.{IsNotEnd}
-use Rattle.event_play.specs.Pausing.{most_behind}
+use Rattle.event_play.specs.Pausing.{most_after}
 use Rattle.event_play.specs.Ports.{IsAtPorts, AreAtPorts}
-use Rattle.event_play.specs.Replay.{Tale, played_capture, from_state}
+use Rattle.event_play.specs.Replay.{Replay, played_capture, from_state}
 use Rattle.event_play.specs.Step.{first_machine}
 use Rattle.dead_drawing.specs.Dead.{window_events}
 use Rattle.dead_drawing.specs.Laws.{height_for}
 use Rattle.dead_drawing.specs.Slim.{slim_events}
-use Rattle.gpu_capture.specs.Reading.{AreFewBehind, AreNeeded, AreNeededToEnd, Said, SaysFirst, SaysStop}
+use Rattle.gpu_capture.specs.Reading.{AreFewAfter, AreNeeded, AreNeededToEnd, Said, SaysFirst, SaysStop}
 use Rattle.event_play.specs.Alike.{IsFlatCapture}
 use Rattle.capture_slim.specs.File.{begun, head_due, Fails, Output}
 use Rattle.capture_slim.specs.Places.{slim_first}
@@ -53,7 +53,7 @@ said_of way = record { version = way.version; events = way.events }
 -- ---- why and when reading ended
 
 -- the reader stopped after the events that were read; a read error only if the source has failed since
-pub record StopsBehind (way : Way) (stop : Stop) (before now : Streams) : Type 0 where
+pub record StopsAfter (way : Way) (stop : Stop) (before now : Streams) : Type 0 where
   pub says : SaysStop capture way.taken (said_of way) stop now.left
   pub needed : AreNeededToEnd capture way.events way.taken
   pub cause : IsReadFault stop → Rose before.faults now.faults
@@ -86,13 +86,13 @@ pub record ReadsBeyond (way : Way) (number : ℕ) : Type 0 where
 abbrev pub IsDue : Way → (number : ℕ) → (before now : Streams) → Type 0
 IsDue way number before now =
     ReadsOn way number
-    ⊎ (IsAmongLast way.events number × (((stop : Stop) × StopsBehind way stop before now) ⊎ RefusesNext way))
+    ⊎ (IsAmongLast way.events number × (((stop : Stop) × StopsAfter way stop before now) ⊎ RefusesNext way))
 
 -- The record of event `number` had to be written at the last event read, before it, or at the end of reading.
 abbrev pub WasDue : Way → (number : ℕ) → (before now : Streams) → Type 0
 WasDue way number before now =
     ReadsBeyond way number
-    ⊎ ((number ≤ length way.events) × (((stop : Stop) × StopsBehind way stop before now) ⊎ RefusesNext way))
+    ⊎ ((number ≤ length way.events) × (((stop : Stop) × StopsAfter way stop before now) ⊎ RefusesNext way))
 
 -- ---- the events that were read
 
@@ -139,18 +139,19 @@ pub record FailsAt (passed : Passed) (held : Option (List ℕ)) (number : ℕ) (
 -- ---- the endings
 
 -- a capture on a new machine
-abbrev pub first : Tale
+abbrev pub first : Replay
 first = from_state first_machine 0
 
 -- Everything was read and written. The output is a capture of the same version, whatever follows it: it is read as the
 -- events that stay, with End. Replaying it shows the same words as replaying the input, and leaves the same status word
 -- and the same video memory.
 pub record IsWhole (way : Way) (before now : Streams) : Type 0 where
-  pub stops : StopsBehind way End before now
+  pub stops : StopsAfter way End before now
   pub held : now.held ≡ appended before.held (slim_file way.version way.events)
   pub fits : length (slim_file way.version way.events) ≤ limit
   pub is_slim : (rest : List ℕ)
-      → IsFlatCapture first (played_capture first (way.taken ++ rest)).tale way.version (slim_of way.version way.events)
+      → IsFlatCapture first (played_capture first (way.taken ++ rest)).replay way.version
+      (slim_of way.version way.events)
       (slim_file way.version way.events)
 
 -- the record of event `number` is written now, and would make the file too long
@@ -159,11 +160,11 @@ pub record FailsRecord (way : Way) (number : ℕ) (before now : Streams) (ending
   pub fails : FailsAt (passed_on way before) now.held number ending
 
 -- The record of event `number` had to be written and is the first that lacks a byte. If that was before the end of
--- reading, at most `most_behind` bytes were read after the event at which it had to be written.
+-- reading, at most `most_after` bytes were read after the event at which it had to be written.
 pub record LacksRecord (way : Way) (number : ℕ) (before now : Streams) : Type 0 where
   pub due : WasDue way number before now
   pub few : number + window_events ≤ length way.events
-      → AreFewBehind capture (take (number + window_events) way.events) way.taken most_behind
+      → AreFewAfter capture (take (number + window_events) way.events) way.taken most_after
   pub fails : FailsAt (passed_on way before) now.held number (WriteFailed number)
 
 -- The whole file of the events that were read is too long. If the record of event `number` had to be written before the
@@ -175,13 +176,13 @@ pub record IsTooLong (way : Way) (number : ℕ) : Type 0 where
 
 -- a proper part of the End record was written
 pub record LacksEnd (way : Way) (number : ℕ) (before now : Streams) : Type 0 where
-  pub stops : StopsBehind way End before now
+  pub stops : StopsAfter way End before now
   pub writes : WritesPart (passed_on way before) now.held number
 
 abbrev pub SaysEnding : Way → (before now : Streams) → SlimEnding → Type 0
 SaysEnding way before now Done = IsWhole way before now
 SaysEnding way before now (Stopped number stop) =
-    WritesAll (passed_on way before) now.held number × StopsBehind way stop before now × IsNotEnd stop
+    WritesAll (passed_on way before) now.held number × StopsAfter way stop before now × IsNotEnd stop
 SaysEnding way before now (NotFlat number) =
     WritesAll (passed_on way before) now.held number × RefusesNext way
 SaysEnding way before now (TooLong number) =

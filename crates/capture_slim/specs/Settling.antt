@@ -2,29 +2,29 @@
 use Rattle.std.specs.Prelude.{◌≡◌, ◌≤◌, ℕ, ◌+◌, Option, Some, None, List, [], ◌∷◌, ◌++◌, length}
 use Rattle.px_num.specs.declared.shape.Box2.{Box2}
 use Rattle.circular_buffer.specs.Buffer.{Buffer}
-use Rattle.capture_slim.specs.Saying.{settle_by}
-use Rattle.capture_slim.specs.declared.saying.Saying.{Saying}
-use Rattle.capture_slim.specs.declared.saying.Saying.TheVariants.{Loud}
+use Rattle.capture_slim.specs.Effect.{settle_by}
+use Rattle.capture_slim.specs.declared.effect.Effect.{Effect}
+use Rattle.capture_slim.specs.declared.effect.Effect.TheVariants.{MayRead}
 use Rattle.capture_slim.specs.declared.slot.Mark.{Mark}
 use Rattle.capture_slim.specs.declared.slot.Mark.TheVariants.{Dropped, Open}
 use Rattle.capture_slim.specs.declared.slot.Slot.{Slot}
 
--- slots with `behind` more events after them
-abbrev pub settled_by : List Slot → (behind : ℕ) → Saying → List Slot
-settled_by [] behind say = []
-settled_by (s ∷ slots) behind say =
-    record { event = s.event; mark = settle_by s.mark (length slots + behind) say } ∷ settled_by slots behind say
+-- slots with `after` more events after them
+abbrev pub settled_by : List Slot → (after : ℕ) → Effect → List Slot
+settled_by [] after say = []
+settled_by (s ∷ slots) after say =
+    record { event = s.event; mark = settle_by s.mark (length slots + after) say } ∷ settled_by slots after say
 
 -- a slot after an event that may read what was drawn
 abbrev pub shut : Slot → Slot
-shut s = record { event = s.event; mark = settle_by s.mark 0 Loud }
+shut s = record { event = s.event; mark = settle_by s.mark 0 MayRead }
 
 abbrev pub all_shut : List Slot → List Slot
 all_shut [] = []
 all_shut (s ∷ slots) = shut s ∷ all_shut slots
 
 -- the first slot is updated and moved to the end
-abbrev pub turned : List Slot → (age : ℕ) → Saying → List Slot
+abbrev pub turned : List Slot → (age : ℕ) → Effect → List Slot
 turned [] age say = []
 turned (s ∷ slots) age say = slots ++ record { event = s.event; mark = settle_by s.mark age say } ∷ []
 

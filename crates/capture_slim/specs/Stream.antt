@@ -37,14 +37,14 @@ outs [] w = []
 outs (e ∷ events) w = leaving (pushed w e) ++ outs events (staying (pushed w e))
 
 -- the window after them
-abbrev pub window_behind : List Event → Window → Window
-window_behind [] w = w
-window_behind (e ∷ events) w = window_behind events (staying (pushed w e))
+abbrev pub window_after : List Event → Window → Window
+window_after [] w = w
+window_after (e ∷ events) w = window_after events (staying (pushed w e))
 
 -- What has left the window is final, whatever follows. With what remains at the end, it is each event at its position.
 abbrev pub StreamLaw : Type 0
 StreamLaw = (height : ℕ) (events : List Event) → places height events
-    ≡ outs events (first_window height) ++ all_left (waiting (window_behind events (first_window height)))
+    ≡ outs events (first_window height) ++ all_left (waiting (window_after events (first_window height)))
 
 abbrev pub LeavesLaw : Type 0
 LeavesLaw = (height : ℕ) (events more : List Event) → (rest : List (Option Event))

@@ -36,11 +36,11 @@ settle (Open area i) age c e =
     if fills_at c e area then (if nat_lt (age + i) window_events then Dropped else Kept)
     else (if is_calm_at c e then Open area i else Kept)
 
--- the same for slots with `behind` more events after them
-abbrev pub settled : List Slot → (behind : ℕ) → Control → Event → List Slot
-settled [] behind c e = []
-settled (s ∷ slots) behind c e =
-    record { event = s.event; mark = settle s.mark (length slots + behind) c e } ∷ settled slots behind c e
+-- the same for slots with `after` more events after them
+abbrev pub settled : List Slot → (after : ℕ) → Control → Event → List Slot
+settled [] after c e = []
+settled (s ∷ slots) after c e =
+    record { event = s.event; mark = settle s.mark (length slots + after) c e } ∷ settled slots after c e
 
 abbrev pub kept : Event → Slot
 kept e = record { event = e; mark = Kept }
@@ -58,15 +58,15 @@ open_words [] i area = []
 open_words (w ∷ ws) i area = record { event = event.Gp0 w; mark = Open area i } ∷ open_words ws (suc i) area
 
 -- the words of a packet that is now complete
-abbrev pub judged : List ℕ → Option Box2 → List Slot
-judged words None = dropped_words words
-judged words (Some area) = open_words words 0 area
+abbrev pub packet_slots : List ℕ → Option Box2 → List Slot
+packet_slots words None = dropped_words words
+packet_slots words (Some area) = open_words words 0 area
 
 -- the words of a packet that may be dropped; if they are all of it, its area is given
 abbrev pub taken_up : List Slot → (words : List ℕ) → Option Box2 → Queue
 taken_up slots words area =
     if nat_lt (length words) (first_len_of (slice_index words 0)) then record { slots = slots; words = words }
-    else record { slots = slots ++ judged words area; words = [] }
+    else record { slots = slots ++ packet_slots words area; words = [] }
 
 -- an event that is no word of such a packet; the words before it belong to none either
 abbrev pub with_event : List Slot → (words : List ℕ) → Event → Queue
@@ -83,30 +83,30 @@ added q (event.Gp0 word) idle area = with_word q.slots q.words word idle area
 added q other idle area = with_event q.slots q.words other
 
 -- the area of the packet that consists of these words and one more
-abbrev pub area_behind : Control → (words : List ℕ) → Event → Option Box2
-area_behind c words (event.Gp0 word) = area_of c.regs (whole_of c.regs.height (words ++ word ∷ []))
-area_behind c words other = None
+abbrev pub area_after : Control → (words : List ℕ) → Event → Option Box2
+area_after c words (event.Gp0 word) = area_of c.regs (whole_of c.regs.height (words ++ word ∷ []))
+area_after c words other = None
 
 -- the slots are updated by an event
-abbrev pub heeded : Window → Event → Queue
-heeded w e = record { slots = settled w.slots (length w.words) w.control e; words = w.words }
+abbrev pub effect_applied : Window → Event → Queue
+effect_applied w e = record { slots = settled w.slots (length w.words) w.control e; words = w.words }
 
 unfoldable pub pushed : Window → Event → Window
-pushed w e = within (added (heeded w e) e (is_idle w.control.pending) (area_behind w.control w.words e))
+pushed w e = within (added (effect_applied w e) e (is_idle w.control.pending) (area_after w.control w.words e))
     (controlled w.control e)
 
 -- ---- the final result, given the events that follow
 
 abbrev pub out_of : Event → Mark → (age : ℕ) → Control → List Event → Option Event
-out_of e Kept age c behind = Some e
-out_of e Dropped age c behind = None
-out_of e (Open area i) age c behind =
-    if is_covered behind c (window_events - (age + i)) area then None else Some e
+out_of e Kept age c following = Some e
+out_of e Dropped age c following = None
+out_of e (Open area i) age c following =
+    if is_covered following c (window_events - (age + i)) area then None else Some e
 
 abbrev pub resolved : List Slot → (after : ℕ) → Control → List Event → List (Option Event)
-resolved [] after c behind = []
-resolved (s ∷ slots) after c behind =
-    out_of s.event s.mark (length slots + after) c behind ∷ resolved slots after c behind
+resolved [] after c following = []
+resolved (s ∷ slots) after c following =
+    out_of s.event s.mark (length slots + after) c following ∷ resolved slots after c following
 
 -- the control before the first of the words
 abbrev pub start_of : List ℕ → Control → Control
@@ -114,9 +114,9 @@ start_of [] c = c
 start_of (w ∷ ws) c = record { regs = c.regs; pending = pending.Idle }
 
 abbrev pub value : Window → List Event → List (Option Event)
-value w behind =
-    resolved w.slots (length w.words) w.control behind
-    ++ places_from (map event.Gp0 w.words ++ behind) (start_of w.words w.control) 0
+value w following =
+    resolved w.slots (length w.words) w.control following
+    ++ places_from (map event.Gp0 w.words ++ following) (start_of w.words w.control) 0
 
 -- the words, if any, are all words so far of a packet that may be dropped
 abbrev pub IsBegun : List ℕ → Control → Type 0

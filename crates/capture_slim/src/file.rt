@@ -1,5 +1,5 @@
 // The file that is written.
-use gathered_out::Gathered;
+use gathered_out::OutputBuffer;
 
 /// `version`: the version of the capture, input and output. `size`: length of the file in bytes, including buffered
 /// records.
@@ -13,5 +13,5 @@ pub struct SlimFile {
 #[derive(Drop)]
 pub(crate) struct Draft {
     pub file: SlimFile,
-    pub gathered: Gathered,
+    pub buffered: OutputBuffer,
 }

@@ -2,6 +2,7 @@
 //! anything reads them.
 #![tactic(auto)]
 
+mod effect;
 mod ending;
 mod file;
 pub mod laws;
@@ -9,7 +10,6 @@ mod pass;
 mod queue;
 mod record;
 mod rest;
-mod saying;
 mod settling;
 mod slim;
 mod slot;

@@ -12,7 +12,7 @@ use crate::slim::{finish, take_event};
 use crate::waiting::Waiting;
 use dev_io::{Sink, Source};
 use event_play::write_at_pause;
-use gathered_out::Gathered;
+use gathered_out::OutputBuffer;
 use gpu_capture::EventReader;
 use px_num::OutOfMemory;
 use std::alloc::Global;
@@ -99,8 +99,8 @@ fn pass_on<S: Source, K: Sink>(window: &mut Waiting, source: &mut S, out: &mut K
                     Err(ending) => return ending,
                 }
                 count += 1;
-                match write_at_pause(&reader, source, since, &mut draft.gathered, out) {
-                    Ok(place) => since = place,
+                match write_at_pause(&reader, source, since, &mut draft.buffered, out) {
+                    Ok(offset) => since = offset,
                     Err(event) => return SlimEnding::WriteFailed { event },
                 }
                 next = reader.next(source);
@@ -113,11 +113,11 @@ fn pass_on<S: Source, K: Sink>(window: &mut Waiting, source: &mut S, out: &mut K
 // Returns an empty file of this version, with nothing buffered.
 fn first_draft(version: u8) -> Draft
     ensures file { result.file ≡ record { version = version; size = 0 } }
-    ensures gathered { result.gathered ≡ [] }
+    ensures buffered { result.buffered ≡ [] }
 {
     Draft {
         file: SlimFile { version, size: 0 },
-        gathered: Gathered::new(),
+        buffered: OutputBuffer::new(),
     }
 }
 

@@ -7,7 +7,7 @@ ghost use Rattle.capture_slim.specs.Settling.{room};
 ghost use Rattle.capture_slim.specs.Stream.{first_left, leaving_from, staying_from};
 ghost use Rattle.capture_slim.specs.Window.{added, kept_words, taken_up, with_event, with_word};
 
-use crate::saying::WINDOW_EVENTS;
+use crate::effect::WINDOW_EVENTS;
 use crate::slot::{Mark, Slot};
 use crate::slots::Slots;
 use gp0_words::{Words, first_len};

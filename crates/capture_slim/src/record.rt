@@ -14,7 +14,7 @@ use crate::ending::SlimEnding;
 use crate::file::{Draft, SlimFile};
 use arrayvec::ArrayVec;
 use dev_io::{Failed, Sink};
-use gathered_out::Gathered;
+use gathered_out::OutputBuffer;
 use gpu_capture::{Event, RECORD_MOST, head_bytes, record_bytes, write_end, write_start};
 
 /// The maximum length of the written file, in bytes.
@@ -94,13 +94,13 @@ pub(crate) fn write_last<K: Sink>(out: &mut K, file: SlimFile) -> Result<(), Fai
 }
 
 // Flushes the buffer and returns `TooLong` at event `number`, or `WriteFailed` if the flush fails.
-fn end_too_long<K: Sink>(gathered: &mut Gathered, number: u64, out: &mut K) -> SlimEnding
-    ensures ends { EndsTooLong gathered.old (K.held out.old) (K.held out.new) number result }
-    ensures late { (least : ℕ) → AreFrom least gathered.old → LacksFrom least result }
+fn end_too_long<K: Sink>(buffered: &mut OutputBuffer, number: u64, out: &mut K) -> SlimEnding
+    ensures ends { EndsTooLong buffered.old (K.held out.old) (K.held out.new) number result }
+    ensures late { (least : ℕ) → AreFrom least buffered.old → LacksFrom least result }
     ensures known { EndsWriting (K.faults out.old) (K.faults out.new) result }
     ensures faults { K.faults out.old ≤ K.faults out.new }
 {
-    match gathered.write(out) {
+    match buffered.write(out) {
         Ok(()) => SlimEnding::TooLong { event: number },
         Err(event) => SlimEnding::WriteFailed { event },
     }
@@ -125,8 +125,8 @@ pub(crate) fn add_record<K: Sink>(
         → IsDraft draft.old base (K.held out.old) outs
         → number ≡ length outs + 1
         → IfErr result (FailsNext (output_of draft.old base (K.held out.new)) outs event.now) }
-    ensures late { (least : ℕ) → AreFrom least draft.old.gathered → least ≤ number
-        → MatchResult result (λ _. AreFrom least draft.new.gathered) (LacksFrom least) }
+    ensures late { (least : ℕ) → AreFrom least draft.old.buffered → least ≤ number
+        → MatchResult result (λ _. AreFrom least draft.new.buffered) (LacksFrom least) }
     ensures few { OnOk result (draft.new.file.size + 4 ≤ 2 ^ 30) }
     ensures version { draft.new.file.version ≡ draft.old.file.version }
     ensures known { IfErr result (EndsWriting (K.faults out.old) (K.faults out.new)) }
@@ -135,9 +135,9 @@ pub(crate) fn add_record<K: Sink>(
     let bytes = due_bytes(draft.file, event);
     let after = draft.file.size + bytes.len() as u32;
     if after + 4 > LIMIT {
-        return Err(end_too_long(&mut draft.gathered, number, out));
+        return Err(end_too_long(&mut draft.buffered, number, out));
     }
-    match draft.gathered.put(number, bytes.as_slice(), out) {
+    match draft.buffered.put(number, bytes.as_slice(), out) {
         Ok(()) => {
             draft.file.size = after;
             Ok(())

@@ -2,7 +2,7 @@
 ghost use Rattle.std.specs.Prelude.{◌≡◌, ◌≤◌, ◌+◌, ◌++◌, ◌^◌, List, ℕ, Option, drop, take, length, IfErr, OnOk};
 ghost use Rattle.std.specs.Prelude.{MatchResult};
 ghost use Rattle.gpu_capture.specs.declared.event.Event.{Event as SpecEvent};
-ghost use Rattle.capture_slim.specs.Came.{GathersFrom};
+ghost use Rattle.capture_slim.specs.Came.{BuffersFrom};
 ghost use Rattle.capture_slim.specs.File.{AreFrom, FailsFirst, FailsRest, HasRoom, IsDraft, IsFile, LacksFrom};
 ghost use Rattle.capture_slim.specs.File.{output_of};
 ghost use Rattle.capture_slim.specs.Passing.{EndsWriting};
@@ -33,8 +33,8 @@ fn add_next<K: Sink>(
         → IsDraft draft.old base (K.held out.old) outs
         → number ≡ length outs + 1 → IfErr result
         (FailsFirst (output_of draft.old base (K.held out.new)) outs (first_left window.old.slots)) }
-    ensures late { (least : ℕ) → AreFrom least draft.old.gathered → least ≤ number
-        → MatchResult result (λ _. AreFrom least draft.new.gathered) (LacksFrom least) }
+    ensures late { (least : ℕ) → AreFrom least draft.old.buffered → least ≤ number
+        → MatchResult result (λ _. AreFrom least draft.new.buffered) (LacksFrom least) }
     ensures few { OnOk result (draft.new.file.size + 4 ≤ 2 ^ 30) }
     ensures version { draft.new.file.version ≡ draft.old.file.version }
     ensures known { IfErr result (EndsWriting (K.faults out.old) (K.faults out.new)) }
@@ -63,8 +63,8 @@ fn add_rest<K: Sink>(
         → IsDraft draft.old base (K.held out.old) outs
         → count ≡ length outs + length (waiting window.old) → IfErr result
         (FailsRest (output_of draft.old base (K.held out.new)) outs (all_left (waiting window.old))) }
-    ensures late { (least : ℕ) → GathersFrom least window.old draft.old count
-        → MatchResult result (λ _. AreFrom least draft.new.gathered) (LacksFrom least) }
+    ensures late { (least : ℕ) → BuffersFrom least window.old draft.old count
+        → MatchResult result (λ _. AreFrom least draft.new.buffered) (LacksFrom least) }
     ensures most { length (waiting window.old) ≤ 4096 }
     ensures version { draft.new.file.version ≡ draft.old.file.version }
     ensures known { IfErr result (EndsWriting (K.faults out.old) (K.faults out.new)) }
@@ -100,32 +100,32 @@ pub(crate) fn write_rest<K: Sink>(
         → IsDraft draft.old base (K.held out.old) outs
         → count ≡ length outs + length (waiting window.old) → IfErr result
         (FailsRest (output_of draft.old base (K.held out.new)) outs (all_left (waiting window.old))) }
-    ensures late { (least : ℕ) → GathersFrom least window.old draft.old count → IfErr result (LacksFrom least) }
+    ensures late { (least : ℕ) → BuffersFrom least window.old draft.old count → IfErr result (LacksFrom least) }
     ensures most { length (waiting window.old) ≤ 4096 }
     ensures version { draft.new.file.version ≡ draft.old.file.version }
     ensures known { IfErr result (EndsWriting (K.faults out.old) (K.faults out.new)) }
     ensures faults { K.faults out.old ≤ K.faults out.new }
 {
     match add_rest(window, draft, count, out) {
-        Ok(()) => write_gathered(draft, out),
+        Ok(()) => write_buffered(draft, out),
         Err(ending) => Err(ending),
     }
 }
 
 // Flushes the buffer.
-fn write_gathered<K: Sink>(draft: &mut Draft, out: &mut K) -> Result<(), SlimEnding>
+fn write_buffered<K: Sink>(draft: &mut Draft, out: &mut K) -> Result<(), SlimEnding>
     ensures ok { (base : Option (List ℕ)) (outs : List (Option SpecEvent))
         → IsDraft draft.old base (K.held out.old) outs
         → OnOk result (IsFile draft.new.file base (K.held out.new) (kept_of outs)) }
     ensures ends { (base : Option (List ℕ)) (outs last : List (Option SpecEvent))
         → IsDraft draft.old base (K.held out.old) (outs ++ last)
         → IfErr result (FailsRest (output_of draft.old base (K.held out.new)) outs last) }
-    ensures late { (least : ℕ) → AreFrom least draft.old.gathered → IfErr result (LacksFrom least) }
+    ensures late { (least : ℕ) → AreFrom least draft.old.buffered → IfErr result (LacksFrom least) }
     ensures version { draft.new.file.version ≡ draft.old.file.version }
     ensures known { IfErr result (EndsWriting (K.faults out.old) (K.faults out.new)) }
     ensures faults { K.faults out.old ≤ K.faults out.new }
 {
-    match draft.gathered.write(out) {
+    match draft.buffered.write(out) {
         Ok(()) => Ok(()),
         Err(event) => Err(SlimEnding::WriteFailed { event }),
     }

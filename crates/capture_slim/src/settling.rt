@@ -3,36 +3,36 @@ ghost use Rattle.std.specs.Prelude.{◌≡◌, ◌<◌, ◌≤◌, ◌+◌, ◌+
 ghost use Rattle.circular_buffer.specs.Buffer.{buffer};
 ghost use Rattle.capture_slim.specs.Settling.{AreSettled, all_shut, settled_by, turned};
 
-use crate::saying::{Saying, settle};
+use crate::effect::{Effect, settle};
 use crate::slot::{Mark, Slot};
 use circular_buffer::HeapCircularBuffer;
 
 // Updates the mark of the first slot and moves it to the end. `age`: the number of events after the slot's.
-fn turn(slots: &mut HeapCircularBuffer<Slot>, age: usize, saying: &Saying)
+fn turn(slots: &mut HeapCircularBuffer<Slot>, age: usize, effect: &Effect)
     requires some { 0 < length slots.old.items }
     requires fits { length slots.old.items ≤ slots.old.capacity }
     requires age { age < 2 ^ 32 }
-    ensures { slots.new ≡ buffer (turned slots.old.items age saying.now) slots.old.capacity }
+    ensures { slots.new ≡ buffer (turned slots.old.items age effect.now) slots.old.capacity }
 {
     if let Some(slot) = slots.pop_front() {
         slots.push_back(Slot {
             event: slot.event,
-            mark: settle(slot.mark, age, saying),
+            mark: settle(slot.mark, age, effect),
         });
     }
 }
 
-/// Updates the mark of each slot and keeps their order. `behind`: the number of events after the last slot, at most 16.
+/// Updates the mark of each slot and keeps their order. `after`: the number of events after the last slot, at most 16.
 /// Requires at most 4,128 slots.
-pub(crate) fn settle_all(slots: &mut HeapCircularBuffer<Slot>, behind: usize, saying: &Saying)
+pub(crate) fn settle_all(slots: &mut HeapCircularBuffer<Slot>, after: usize, effect: &Effect)
     requires few { length slots.old.items ≤ 4128 }
     requires fits { length slots.old.items ≤ slots.old.capacity }
-    requires behind { behind ≤ 16 }
-    ensures { slots.new ≡ buffer (settled_by slots.old.items behind saying.now) slots.old.capacity }
+    requires after { after ≤ 16 }
+    ensures { slots.new ≡ buffer (settled_by slots.old.items after effect.now) slots.old.capacity }
 {
     let count = slots.len();
     for i in 0..count {
-        turn(slots, count - 1 - i + behind, saying);
+        turn(slots, count - 1 - i + after, effect);
     }
 }
 
@@ -46,7 +46,7 @@ fn shut_first(settled: &mut HeapCircularBuffer<Slot>, recent: &mut HeapCircularB
     if let Some(slot) = recent.pop_front() {
         settled.push_back(Slot {
             event: slot.event,
-            mark: settle(slot.mark, 0, &Saying::Loud),
+            mark: settle(slot.mark, 0, &Effect::MayRead),
         });
     }
 }

@@ -8,7 +8,7 @@ ghost use Rattle.gpu_capture.specs.declared.event.Event.{Event as SpecEvent};
 ghost use Rattle.gpu_capture.specs.Reader.{IsReadFault};
 ghost use Rattle.event_play.specs.Ports.{IsAtPorts};
 ghost use Rattle.capture_slim.specs.Came.{Came, ClosesFile, EndsEvent, EndsPushed, EndsRefused, EndsStop};
-ghost use Rattle.capture_slim.specs.Came.{GathersFrom, HasCount, StopsAs, and_event};
+ghost use Rattle.capture_slim.specs.Came.{BuffersFrom, HasCount, StopsAs, and_event};
 ghost use Rattle.capture_slim.specs.File.{AreFrom, HasRoom, LacksFrom};
 ghost use Rattle.capture_slim.specs.Passing.{EndsWriting, MayReadFault, MayWriteFault, IsEnding, Passed};
 ghost use Rattle.capture_slim.specs.Window.{waiting};
@@ -64,8 +64,8 @@ fn push_event<K: Sink>(
     ensures ends { (passed : Passed) → Came passed window.old draft.old count (K.held out.old)
         → IfErr result (EndsPushed (and_event passed event) (K.held out.new)) }
     ensures late { (passed : Passed) (least : ℕ) → Came passed window.old draft.old count (K.held out.old)
-        → GathersFrom least window.old draft.old count
-        → MatchResult result (λ _. AreFrom least draft.new.gathered) (LacksFrom least) }
+        → BuffersFrom least window.old draft.old count
+        → MatchResult result (λ _. AreFrom least draft.new.buffered) (LacksFrom least) }
     ensures known { IfErr result (EndsWriting (K.faults out.old) (K.faults out.new)) }
     ensures faults { K.faults out.old ≤ K.faults out.new }
 {
@@ -85,7 +85,7 @@ fn refuse<K: Sink>(window: &mut Waiting, draft: &mut Draft, count: u64, out: &mu
     requires count { HasCount window.old count }
     ensures ends { (passed : Passed) → Came passed window.old draft.old count (K.held out.old)
         → EndsRefused passed (K.held out.new) result }
-    ensures late { (least : ℕ) → GathersFrom least window.old draft.old count → LacksFrom least result }
+    ensures late { (least : ℕ) → BuffersFrom least window.old draft.old count → LacksFrom least result }
     ensures known { EndsWriting (K.faults out.old) (K.faults out.new) result }
     ensures faults { K.faults out.old ≤ K.faults out.new }
 {
@@ -111,8 +111,8 @@ pub(crate) fn take_event<K: Sink>(
     ensures ends { (passed : Passed) → Came passed window.old draft.old count (K.held out.old)
         → IfErr result (EndsEvent passed event (K.held out.new)) }
     ensures late { (passed : Passed) (least : ℕ) → Came passed window.old draft.old count (K.held out.old)
-        → GathersFrom least window.old draft.old count
-        → MatchResult result (λ _. AreFrom least draft.new.gathered) (LacksFrom least) }
+        → BuffersFrom least window.old draft.old count
+        → MatchResult result (λ _. AreFrom least draft.new.buffered) (LacksFrom least) }
     ensures known { IfErr result (EndsWriting (K.faults out.old) (K.faults out.new)) }
     ensures faults { K.faults out.old ≤ K.faults out.new }
 {
@@ -135,7 +135,7 @@ pub(crate) fn finish<K: Sink>(
     requires count { HasCount window.old count }
     ensures ends { (passed : Passed) → Came passed window.old draft.old count (K.held out.old)
         → EndsStop passed stop (K.held out.new) result }
-    ensures late { (least : ℕ) → GathersFrom least window.old draft.old count → LacksFrom least result }
+    ensures late { (least : ℕ) → BuffersFrom least window.old draft.old count → LacksFrom least result }
     ensures known { IsEnding result }
     ensures read { MayReadFault result → IsReadFault stop }
     ensures cause { MayWriteFault result → Rose (K.faults out.old) (K.faults out.new) }

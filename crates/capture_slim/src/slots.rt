@@ -1,9 +1,9 @@
 // The slots of the waiting events: one list, in two parts. The marks of the first part are final.
 ghost use Rattle.std.specs.Prelude.{◌≡◌, ◌<◌, ◌≤◌, ◌+◌, ◌++◌, ◌∷◌, [], IfOk, length, drop, slice_get};
 ghost use Rattle.capture_slim.specs.Settling.{mark_of, room, settled_by};
-ghost use Rattle.capture_slim.specs.Window.{judged, kept_words};
+ghost use Rattle.capture_slim.specs.Window.{packet_slots, kept_words};
 
-use crate::saying::Saying;
+use crate::effect::Effect;
 use crate::settling::{is_first_settled, settle_all, shut_all};
 use crate::slot::{Mark, Slot};
 use circular_buffer::HeapCircularBuffer;
@@ -94,7 +94,7 @@ impl Slots {
     pub(crate) fn put_packet(&mut self, words: &[u32], area: Option<Box2>)
         requires room { length self.old + length words.now ≤ room }
         requires few { length words.now ≤ 12 }
-        ensures { self.new ≡ self.old ++ judged words.now area }
+        ensures { self.new ≡ self.old ++ packet_slots words.now area }
     {
         let mut offset = 0u16;
         for word in words {
@@ -106,17 +106,17 @@ impl Slots {
         }
     }
 
-    /// Updates the marks of the slots by the effect of an event. `behind`: the number of events after the last slot, at
+    /// Updates the marks of the slots by the effect of an event. `after`: the number of events after the last slot, at
     /// most 16.
-    pub(crate) fn heed(&mut self, behind: usize, saying: &Saying)
-        requires { behind ≤ 16 }
-        ensures { self.new ≡ settled_by self.old behind saying.now }
+    pub(crate) fn apply_effect(&mut self, after: usize, effect: &Effect)
+        requires { after ≤ 16 }
+        ensures { self.new ≡ settled_by self.old after effect.now }
     {
-        match *saying {
-            Saying::Quiet => {}
-            Saying::Loud => shut_all(&mut self.settled, &mut self.recent),
-            Saying::Cover { .. } => {
-                settle_all(&mut self.recent, behind, saying);
+        match *effect {
+            Effect::Nothing => {}
+            Effect::MayRead => shut_all(&mut self.settled, &mut self.recent),
+            Effect::Cover { .. } => {
+                settle_all(&mut self.recent, after, effect);
                 self.pass_settled();
             }
         }

@@ -4,13 +4,13 @@ ghost use Rattle.px_num.specs.Height.{short_height, tall_height};
 ghost use Rattle.gp0_packets.specs.Ranges.{IsInRange};
 ghost use Rattle.gpu_core.specs.Machine.{is_idle};
 ghost use Rattle.dead_drawing.specs.Control.{controlled, first_control, regs_after};
-ghost use Rattle.capture_slim.specs.declared.saying.Saying.TheVariants.{Quiet};
-ghost use Rattle.capture_slim.specs.Saying.{said_at};
+ghost use Rattle.capture_slim.specs.declared.effect.Effect.TheVariants.{Nothing};
+ghost use Rattle.capture_slim.specs.Effect.{event_effect};
 ghost use Rattle.gpu_capture.specs.declared.event.Event.TheVariants.{Gp0};
 ghost use Rattle.gp0_packets.specs.Packets.{environment_of};
 ghost use Rattle.capture_slim.specs.Telling.{area_at};
 
-use crate::saying::{Saying, said};
+use crate::effect::{Effect, packet_effect};
 use gp0_packets::{Packet, decode};
 use gp0_words::Splitter;
 use gp1_status::{Regs, clears};
@@ -40,16 +40,16 @@ impl Model for Track {
 /// none or it draws nothing.
 #[derive(Drop)]
 pub(crate) struct Told {
-    pub saying: Saying,
+    pub effect: Effect,
     pub area: Option<Box2>,
 }
 
-fn quiet() -> Told
-    ensures saying { result.saying ≡ Quiet }
+fn no_effect() -> Told
+    ensures effect { result.effect ≡ Nothing }
     ensures area { result.area ≡ None }
 {
     Told {
-        saying: Saying::Quiet,
+        effect: Effect::Nothing,
         area: None,
     }
 }
@@ -99,7 +99,7 @@ impl Track {
     #[tactic(auto, unfolding(dead_drawing::specs::Control::controlled, gp0_words::specs::Items::pending_behind))]
     pub(crate) fn follow(&mut self, event: &Event) -> Told
         ensures control { self.new ≡ controlled self.old event.now }
-        ensures saying { result.saying ≡ said_at self.old event.now }
+        ensures effect { result.effect ≡ event_effect self.old event.now }
         ensures area { result.area ≡ area_at self.old event.now }
     {
         match *event {
@@ -109,11 +109,11 @@ impl Track {
                 if clears(word) {
                     self.splitter.clear();
                 }
-                quiet()
+                no_effect()
             }
-            Event::Stat => quiet(),
+            Event::Stat => no_effect(),
             _ => Told {
-                saying: Saying::Loud,
+                effect: Effect::MayRead,
                 area: None,
             },
         }
@@ -122,15 +122,15 @@ impl Track {
     // Applies a word of GP0. Register words, and words inside a packet, have no effect on earlier packets and no area.
     fn follow_word(&mut self, word: u32) -> Told
         ensures control { self.new ≡ controlled self.old (Gp0 word) }
-        ensures saying { result.saying ≡ said_at self.old (Gp0 word) }
+        ensures effect { result.effect ≡ event_effect self.old (Gp0 word) }
         ensures area { result.area ≡ area_at self.old (Gp0 word) }
     {
         if self.splitter.passes(word) {
             set_register(&mut self.regs, word);
-            return quiet();
+            return no_effect();
         }
         if self.splitter.push_inside(word) {
-            return quiet();
+            return no_effect();
         }
         self.complete(word)
     }
@@ -139,17 +139,17 @@ impl Track {
     #[tactic(auto, unfolding(dead_drawing::specs::Control::controlled, gp0_words::specs::Items::pending_behind))]
     fn complete(&mut self, word: u32) -> Told
         ensures control { self.new ≡ controlled self.old (Gp0 word) }
-        ensures saying { result.saying ≡ said_at self.old (Gp0 word) }
+        ensures effect { result.effect ≡ event_effect self.old (Gp0 word) }
         ensures area { result.area ≡ area_at self.old (Gp0 word) }
     {
         match self.splitter.push(word) {
-            None => quiet(),
+            None => no_effect(),
             Some(item) => {
                 let packet = decode(&item, self.regs.is_tall());
                 let area = area_of(&self.regs, &packet);
-                let saying = said(&self.regs, &packet);
+                let effect = packet_effect(&self.regs, &packet);
                 put(&mut self.regs, &packet);
-                Told { saying, area }
+                Told { effect, area }
             }
         }
     }

@@ -67,9 +67,9 @@ impl Waiting {
         ensures ports { IfSome result IsAtPorts }
     {
         let idle = self.track.is_idle();
-        let behind = self.queue.words.as_slice().len();
+        let after = self.queue.words.as_slice().len();
         let told = self.track.follow(&event);
-        self.queue.slots.heed(behind, &told.saying);
+        self.queue.slots.apply_effect(after, &told.effect);
         self.queue.add(event, idle, told.area);
         self.queue.leave()
     }

@@ -202,10 +202,10 @@ packet_law machine a b c words a_ports b_ports c_ports d whole idle unseen =
     let t = from_state machine 0 in
     let s = run machine.gpu a in
     let long : length s.parts.m % 1024 ≡ 0 = ap (λ (n : ℕ). n % 1024) (run_long machine.gpu a) ∙ whole in
-    let behind = ports_append b c b_ports c_ports in
-    let words_too = ports_append (map event.Gp0 words) (b ++ c) (words_are_ports words) behind in
+    let following = ports_append b c b_ports c_ports in
+    let words_too = ports_append (map event.Gp0 words) (b ++ c) (words_are_ports words) following in
     alike_by (replay_of machine (a ++ (b ++ c))) (replay_of machine (a ++ (map event.Gp0 words ++ (b ++ c))))
-    (replay_is (a ++ (b ++ c)) t (ports_append a (b ++ c) a_ports behind)
+    (replay_is (a ++ (b ++ c)) t (ports_append a (b ++ c) a_ports following)
     ∙ seen_append machine.gpu [] a (b ++ c)
     ∙ sym (seen_gone s ([] ++ told machine.gpu a) words b c (gone s words b d long idle unseen))
     ∙ sym (seen_append machine.gpu [] a (map event.Gp0 words ++ (b ++ c)))

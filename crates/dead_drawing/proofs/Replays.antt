@@ -6,7 +6,7 @@ use Rattle.gpu_capture.specs.declared.event.Stop.TheVariants.{End}
 use Rattle.gpu_core.specs.Machine.{State, status_word, after_gp0, after_gp1, after_read, read_word}
 use Rattle.event_play.specs.Alike.{AreAlike}
 use Rattle.event_play.specs.Ports.{AreAtPorts}
-use Rattle.event_play.specs.Replay.{Tale, Played, played_events}
+use Rattle.event_play.specs.Replay.{Replay, Played, played_events}
 use Rattle.event_play.specs.Step.{event_step}
 use Rattle.event_play.specs.declared.ending.Ending.{Ending}
 use Rattle.event_play.specs.declared.ending.Ending.TheVariants.{Done}
@@ -22,9 +22,9 @@ pub record Outcome : Type 0 where
 abbrev pub outcome_of : Played → Outcome
 outcome_of r = record {
   ending = r.ending;
-  shown = r.tale.shown;
-  status = status_word r.tale.state.gpu;
-  cells = r.tale.state.gpu.parts.m;
+  shown = r.replay.shown;
+  status = status_word r.replay.state.gpu;
+  cells = r.replay.state.gpu.parts.m;
 }
 
 -- the result at a state, with the words shown up to it
@@ -36,7 +36,7 @@ abbrev pub seen : State → (shown : List ℕ) → List Event → Outcome
 seen s shown events = outcome_at (shown ++ told s events) (run s events)
 
 -- Replays with the same result are alike.
-pub alike_by : (a b : Played) → outcome_of a ≡ outcome_of b → AreAlike a.tale b.tale
+pub alike_by : (a b : Played) → outcome_of a ≡ outcome_of b → AreAlike a.replay b.replay
 alike_by a b e = record {
   shown = ap (λ (o : Outcome). o.shown) e;
   status = ap (λ (o : Outcome). o.status) e;
@@ -48,7 +48,7 @@ step_on : (s : State) (shown one : List ℕ) (events : List Event)
 step_on s shown one events = ap (λ ns. outcome_at ns (run s events)) (append_assoc shown one (told s events))
 
 -- Events of the ports have no fault.
-pub replay_is : (events : List Event) (t : Tale) → AreAtPorts events
+pub replay_is : (events : List Event) (t : Replay) → AreAtPorts events
     → outcome_of (played_events t events End []) ≡ seen t.state.gpu t.shown events
 unfolding event_step after shown_at
 replay_is [] t ports = ap (λ ns. outcome_at ns t.state.gpu) (sym (append-nil t.shown))

@@ -169,10 +169,10 @@ area_but_latch r now words e =
     ap (λ (q : Registers). area_of q (whole_of q.height words)) e ∙ area_latch r now.held (whole_of r.height words)
 
 -- The first events after the packet hide it, or it draws nothing.
-pub record IsGoneBefore (s : State) (words : List ℕ) (behind : List Event) : Type 0 where
+pub record IsGoneBefore (s : State) (words : List ℕ) (following : List Event) : Type 0 where
   pub first : List Event
   pub rest : List Event
-  pub parts : behind ≡ first ++ rest
+  pub parts : following ≡ first ++ rest
   pub unseen : IsUnseen s words first
 
 no_end : (events : List Event) (e : Event) → [] ≡ events ++ e ∷ [] → ⊥
@@ -185,13 +185,13 @@ covered_unseen : (s : State) (words : List ℕ) (first : List Event)
 covered_unseen s words [] h = absurd (no_end h.between (event.Gp0 h.word) h.parts)
 covered_unseen s words (e ∷ first) h = h
 
-hidden_by : (c : Control) (s : State) (words : List ℕ) (behind : List Event) (n : ℕ) (area : Option Box2)
+hidden_by : (c : Control) (s : State) (words : List ℕ) (following : List Event) (n : ℕ) (area : Option Box2)
     → area_of s.parts.regs (whole_of s.parts.regs.height words) ≡ area
     → Tracks (controls (map event.Gp0 words) c) (run s (map event.Gp0 words))
-    → is_hidden area behind (controls (map event.Gp0 words) c) n ≡ true → IsGoneBefore s words behind
-hidden_by c s words behind n None e tracks h = record { first = []; rest = behind; parts = refl; unseen = e }
-hidden_by c s words behind n (Some b) e tracks h =
-    let u = begins_covered behind (controls (map event.Gp0 words) c) n (run s (map event.Gp0 words)) b tracks h in
+    → is_hidden area following (controls (map event.Gp0 words) c) n ≡ true → IsGoneBefore s words following
+hidden_by c s words following n None e tracks h = record { first = []; rest = following; parts = refl; unseen = e }
+hidden_by c s words following n (Some b) e tracks h =
+    let u = begins_covered following (controls (map event.Gp0 words) c) n (run s (map event.Gp0 words)) b tracks h in
     record {
       first = u.first;
       rest = u.rest;
@@ -205,10 +205,10 @@ pub front_gone : (c : Control) (s : State) (events : List Event) (words : List �
     → IsFront c events words → is_dead c events words ≡ true
     → seen s shown events ≡ seen s shown (drop (length words) events)
 front_gone c s events words shown tracks long front dead =
-    let behind = drop (length words) events in
+    let following = drop (length words) events in
     let area : area_of s.parts.regs (whole_of s.parts.regs.height words) ≡ area_of c.regs
     (whole_of c.regs.height words) = area_but_latch c.regs s.parts.regs words tracks.regs in
-    let u = hidden_by c s words behind (window_events + 1 - length words)
+    let u = hidden_by c s words following (window_events + 1 - length words)
     (area_of c.regs (whole_of c.regs.height words)) area (run_tracks (map event.Gp0 words) c s tracks) dead in
     let idle : pending_behind s.words ≡ pending.Idle = tracks.pending ∙ front.idle in
     ap (seen s shown) (front.parts ∙ ap (λ (es : List Event). map event.Gp0 words ++ es) u.parts)

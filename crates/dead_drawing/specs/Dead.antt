@@ -98,8 +98,8 @@ front c other = None
 
 -- the area is empty, or one of the next n events covers it
 abbrev pub is_hidden : Option Box2 → List Event → Control → ℕ → Bool
-is_hidden None behind c n = true
-is_hidden (Some area) behind c n = is_covered behind c n area
+is_hidden None following c n = true
+is_hidden (Some area) following c n = is_covered following c n area
 
 -- the packet of these words, at the front of the events, is dead
 abbrev pub is_dead : Control → List Event → List ℕ → Bool

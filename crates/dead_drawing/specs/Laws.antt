@@ -23,5 +23,5 @@ abbrev pub SlimReplaysAlike : Type 0
 SlimReplaysAlike = (version : ℕ) (events : List Event) → AreAtPorts events
     → ((replay_of (machine_for version) (slim_events (height_for version) events)).ending ≡ Done)
     × ((replay_of (machine_for version) events).ending ≡ Done)
-    × AreAlike (replay_of (machine_for version) (slim_events (height_for version) events)).tale
-    (replay_of (machine_for version) events).tale
+    × AreAlike (replay_of (machine_for version) (slim_events (height_for version) events)).replay
+    (replay_of (machine_for version) events).replay

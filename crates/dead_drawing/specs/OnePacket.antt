@@ -50,9 +50,9 @@ pub record IsCovered (s : State) (events : List Event) (area : Option Box2) : Ty
   pub calm : AreCalm s between
   pub covers : Covers (run s between) word area
 
--- The packet `words`, which starts with nothing pending, is not seen by the events `behind` after it: the last of them
+-- The packet `words`, which starts with nothing pending, is not seen by the events `after` after it: the last of them
 -- covers its area, or there are none and it draws nothing.
-abbrev pub IsUnseen : State → (words : List ℕ) → (behind : List Event) → Type 0
+abbrev pub IsUnseen : State → (words : List ℕ) → (following : List Event) → Type 0
 IsUnseen s words [] = area_of s.parts.regs (whole_of s.parts.regs.height words) ≡ None
 IsUnseen s words (e ∷ events) =
     IsCovered (run s (map event.Gp0 words)) (e ∷ events) (area_of s.parts.regs (whole_of s.parts.regs.height words))
@@ -66,4 +66,4 @@ PacketsAreUnseen =
     → length s.gpu.parts.m % 1024 ≡ 0
     → pending_behind (run s.gpu a).words ≡ pending.Idle
     → IsUnseen (run s.gpu a) words b
-    → AreAlike (replay_of s (a ++ (b ++ c))).tale (replay_of s (a ++ (map event.Gp0 words ++ (b ++ c)))).tale
+    → AreAlike (replay_of s (a ++ (b ++ c))).replay (replay_of s (a ++ (map event.Gp0 words ++ (b ++ c)))).replay

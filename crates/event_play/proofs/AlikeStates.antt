@@ -17,21 +17,21 @@ use Rattle.picture_out.specs.Dump.{dump, dump_cost}
 use Rattle.picture_out.specs.Picture.{picture, picture_cost}
 use Rattle.event_play.specs.AlikeStates.{StandAlike, TellAlike, PlayAlike, AlikeReplayAlike}
 use Rattle.event_play.specs.Fed.{fed, fed_notes, fed_cost, fed_box_cost}
-use Rattle.event_play.specs.Frames.{frames_behind, frame_bytes, frame_sum, frame_cost, vram_sum, bytes_at_end}
+use Rattle.event_play.specs.Frames.{frames_after, frame_bytes, frame_sum, frame_cost, vram_sum, bytes_at_end}
 use Rattle.event_play.specs.Frames.{cost_at_end}
 use Rattle.event_play.specs.Lines.{lines_for}
-use Rattle.event_play.specs.Out.{final_bytes, final_cost, finals_at, finals_cost_at, ending_under, tale_cost}
-use Rattle.event_play.specs.Out.{tale_box_cost}
-use Rattle.event_play.specs.Replay.{Tale, Played, played_events, go_on, told_on, after_event, next_number, ending_of}
+use Rattle.event_play.specs.Out.{final_bytes, final_cost, finals_at, finals_cost_at, ending_under, replay_cost}
+use Rattle.event_play.specs.Out.{replay_box_cost}
+use Rattle.event_play.specs.Replay.{Replay, Played, played_events, go_on, told_on, after_event, next_number, ending_of}
 use Rattle.event_play.specs.Replay.{from_state}
 use Rattle.event_play.specs.Replay.{raised, tall_version, played_from}
 use Rattle.event_play.specs.Step.{Machine, Stepped, event_step, event_cost, event_box_cost, done, stepped, step_cost}
 use Rattle.event_play.specs.Step.{step_box_cost}
-use Rattle.event_play.specs.Step.{work_cost, work_box_cost, words_of}
-use Rattle.event_play.specs.Strokes.{Stroke, stroke_of, fed_strokes, event_strokes}
+use Rattle.event_play.specs.Step.{operation_cost, operation_box_cost, words_of}
+use Rattle.event_play.specs.Changes.{Change, word_change, fed_changes, event_changes}
 use Rattle.event_play.specs.Taken.{Taken, take_one, first_taken}
 use Rattle.event_play.specs.Told.{told_notes}
-use Rattle.event_play.specs.Work.{work_of}
+use Rattle.event_play.specs.Operation.{operation_of}
 use Rattle.event_play.specs.declared.block.Block.{Block}
 use Rattle.event_play.specs.declared.ending.Ending.{Ending}
 use Rattle.event_play.specs.declared.ending.Ending.TheVariants.{Done, Stopped, Faulted, NoPicture, WriteFailed}
@@ -39,8 +39,8 @@ use Rattle.event_play.specs.declared.ending.Mode.{Mode}
 use Rattle.event_play.specs.declared.ending.Mode.TheVariants.{Vram, Shot, Report, Frames, Sums, Pixel}
 use Rattle.event_play.specs.declared.ending.Mode.TheVariants.{List as Listing, Play as Words}
 use Rattle.event_play.specs.declared.fault.EventFault.{EventFault}
-use Rattle.event_play.specs.declared.work.Work.{Work}
-use Rattle.event_play.specs.declared.work.Work.TheVariants as work
+use Rattle.event_play.specs.declared.operation.Operation.{Operation}
+use Rattle.event_play.specs.declared.operation.Operation.TheVariants as operation
 
 -- ---- words and reads
 
@@ -57,19 +57,19 @@ notes-alike a b number (word ∷ words) same =
       notes-alike (after_gp0 a word) (after_gp0 b word) number words (feed-alike a b same word),
     ) refl
 
-strokes-alike : (a b : State) (number : ℕ) (words : List ℕ) → kept_of a ≡ kept_of b
-    → fed_strokes a number words ≡ fed_strokes b number words
-strokes-alike a b number [] same = refl
-strokes-alike a b number (word ∷ words) same =
+changes-alike : (a b : State) (number : ℕ) (words : List ℕ) → kept_of a ≡ kept_of b
+    → fed_changes a number words ≡ fed_changes b number words
+changes-alike a b number [] same = refl
+changes-alike a b number (word ∷ words) same =
     let fed = feed-alike a b same word in
-    let stroke : Option Note → (before after : List ℕ) → Stroke = λ note before after.
+    let change : Option Note → (before after : List ℕ) → Change = λ note before after.
     record { note = note; before = before; after = after } in
-    let more = fed_strokes (after_gp0 a word) number words in
-    ap (λ note. stroke note a.parts.m (after_gp0 a word).parts.m ∷ more) (note-alike a b same number word)
-    ∙ ap (λ (k : Kept). stroke (gp0_note b number word) k.parts.m (after_gp0 a word).parts.m ∷ more) same
-    ∙ ap (λ (k : Kept). stroke (gp0_note b number word) b.parts.m k.parts.m ∷ more) fed
-    ∙ ap (λ strokes. stroke_of b number word ∷ strokes)
-    (strokes-alike (after_gp0 a word) (after_gp0 b word) number words fed)
+    let more = fed_changes (after_gp0 a word) number words in
+    ap (λ note. change note a.parts.m (after_gp0 a word).parts.m ∷ more) (note-alike a b same number word)
+    ∙ ap (λ (k : Kept). change (gp0_note b number word) k.parts.m (after_gp0 a word).parts.m ∷ more) same
+    ∙ ap (λ (k : Kept). change (gp0_note b number word) b.parts.m k.parts.m ∷ more) fed
+    ∙ ap (λ changes. word_change b number word ∷ changes)
+    (changes-alike (after_gp0 a word) (after_gp0 b word) number words fed)
 
 fed_cost-alike : (a b : State) (words : List ℕ) → kept_of a ≡ kept_of b → fed_cost a words ≡ fed_cost b words
 fed_cost-alike a b [] same = refl
@@ -127,57 +127,57 @@ module _ (a b : State) (same : kept_of a ≡ kept_of b) (ram : List ℕ) (runnin
   abbrev right : Machine
   right = machine_with b ram running
 
-  done-alike : (number : ℕ) (asked : Work) → StepAlike (done left number asked) (done right number asked)
-  done-alike number work.Nothing =
+  done-alike : (number : ℕ) (asked : Operation) → StepAlike (done left number asked) (done right number asked)
+  done-alike number operation.Nothing =
       record { machine = record { gpu = same; ram = refl; running = refl }; shown = refl; notes = refl }
-  done-alike number (work.Put address word) =
+  done-alike number (operation.Put address word) =
       record { machine = record { gpu = same; ram = refl; running = refl }; shown = refl; notes = refl }
-  done-alike number (work.Feed asked next) = record {
+  done-alike number (operation.Feed asked next) = record {
     machine = record { gpu = fed-alike a b (words_of ram asked) same; ram = refl; running = refl };
     shown = refl;
     notes = notes-alike a b number (words_of ram asked) same;
   }
-  done-alike number (work.Take block next) =
+  done-alike number (operation.Take block next) =
       let reads = reads-alike block block.n a b ram same in record {
         machine = record { gpu = reads.gpu; ram = reads.ram; running = refl };
         shown = refl;
         notes = refl;
       }
-  done-alike number (work.Control word) = record {
+  done-alike number (operation.Control word) = record {
     machine = record { gpu = gp1-alike a b same word; ram = refl; running = refl };
     shown = refl;
     notes = refl;
   }
-  done-alike number work.Read = record {
+  done-alike number operation.Read = record {
     machine = record { gpu = take-alike a b same; ram = refl; running = refl };
     shown = ap Some (taken-alike a b same);
     notes = refl;
   }
-  done-alike number work.Skip =
+  done-alike number operation.Skip =
       record { machine = record { gpu = take-alike a b same; ram = refl; running = refl }; shown = refl; notes = refl }
-  done-alike number work.Stat = record {
+  done-alike number operation.Stat = record {
     machine = record { gpu = same; ram = refl; running = refl };
     shown = ap Some (status-alike a b same);
     notes = refl;
   }
-  done-alike number (work.Clear madr n) =
+  done-alike number (operation.Clear madr n) =
       record { machine = record { gpu = same; ram = refl; running = refl }; shown = refl; notes = refl }
-  done-alike number (work.Begin next) =
+  done-alike number (operation.Begin next) =
       record { machine = record { gpu = same; ram = refl; running = refl }; shown = refl; notes = refl }
 
-  work_cost-alike : (asked : Work) → work_cost left asked ≡ work_cost right asked
-  work_cost-alike (work.Feed asked next) = fed_cost-alike a b (words_of ram asked) same
-  work_cost-alike (work.Take block next) = (reads-alike block block.n a b ram same).cost
-  work_cost-alike work.Read = take_cost-alike a b same
-  work_cost-alike work.Skip = take_cost-alike a b same
-  work_cost-alike other = refl
+  operation_cost-alike : (asked : Operation) → operation_cost left asked ≡ operation_cost right asked
+  operation_cost-alike (operation.Feed asked next) = fed_cost-alike a b (words_of ram asked) same
+  operation_cost-alike (operation.Take block next) = (reads-alike block block.n a b ram same).cost
+  operation_cost-alike operation.Read = take_cost-alike a b same
+  operation_cost-alike operation.Skip = take_cost-alike a b same
+  operation_cost-alike other = refl
 
-  work_box_cost-alike : (asked : Work) → work_box_cost left asked ≡ work_box_cost right asked
-  work_box_cost-alike (work.Feed asked next) = fed_box_cost-alike a b (words_of ram asked) same
-  work_box_cost-alike (work.Take block next) = (reads-alike block block.n a b ram same).box_cost
-  work_box_cost-alike work.Read = take_box_cost-alike a b same
-  work_box_cost-alike work.Skip = take_box_cost-alike a b same
-  work_box_cost-alike other = refl
+  operation_box_cost-alike : (asked : Operation) → operation_box_cost left asked ≡ operation_box_cost right asked
+  operation_box_cost-alike (operation.Feed asked next) = fed_box_cost-alike a b (words_of ram asked) same
+  operation_box_cost-alike (operation.Take block next) = (reads-alike block block.n a b ram same).box_cost
+  operation_box_cost-alike operation.Read = take_box_cost-alike a b same
+  operation_box_cost-alike operation.Skip = take_box_cost-alike a b same
+  operation_box_cost-alike other = refl
 
 -- what two steps return: alike machines, or the same fault
 abbrev AnswerAlike : Result Stepped EventFault → Result Stepped EventFault → Type 0
@@ -185,17 +185,17 @@ AnswerAlike (Ok s) (Ok z) = StepAlike s z
 AnswerAlike (Err f) (Err g) = f ≡ g
 AnswerAlike r q = ⊥
 
-record WorkAlike (a b : Machine) (number : ℕ) (asked : Result Work EventFault) : Type 0 where
+record OperationAlike (a b : Machine) (number : ℕ) (asked : Result Operation EventFault) : Type 0 where
   answer : AnswerAlike (stepped a number asked) (stepped b number asked)
   cost : step_cost a asked ≡ step_cost b asked
   box_cost : step_box_cost a asked ≡ step_box_cost b asked
 
-asked-alike : (a b : State) (ram : List ℕ) (running : Run) (number : ℕ) (asked : Result Work EventFault)
-    → kept_of a ≡ kept_of b → WorkAlike (machine_with a ram running) (machine_with b ram running) number asked
+asked-alike : (a b : State) (ram : List ℕ) (running : Run) (number : ℕ) (asked : Result Operation EventFault)
+    → kept_of a ≡ kept_of b → OperationAlike (machine_with a ram running) (machine_with b ram running) number asked
 asked-alike a b ram running number (Ok asked) same = record {
   answer = done-alike a b same ram running number asked;
-  cost = work_cost-alike a b same ram running asked;
-  box_cost = work_box_cost-alike a b same ram running asked;
+  cost = operation_cost-alike a b same ram running asked;
+  box_cost = operation_box_cost-alike a b same ram running asked;
 }
 asked-alike a b ram running number (Err fault) same = record { answer = refl; cost = refl; box_cost = refl }
 
@@ -208,24 +208,24 @@ event-alike : (a b : Machine) (number : ℕ) (event : Event) → StandAlike a b 
 unfolding event_step event_cost event_box_cost
 event-alike a b number event same =
     let other : machine_with b.gpu a.ram a.running ≡ b = rw (same.ram, same.running) refl in
-    let asked = work_of a.ram a.running event in
+    let asked = operation_of a.ram a.running event in
     let alike = asked-alike a.gpu b.gpu a.ram a.running number asked same.gpu in
     subst (λ z. EventAlike a z number event) other
     (record { answer = alike.answer; cost = alike.cost; box_cost = alike.box_cost })
 
-event_strokes-alike : (a b : Machine) (number : ℕ) (event : Event) → StandAlike a b
-    → event_strokes a number event ≡ event_strokes b number event
-event_strokes-alike a b number event same =
-    rw (same.ram, same.running) (strokes-alike a.gpu b.gpu number _ same.gpu)
+event_changes-alike : (a b : Machine) (number : ℕ) (event : Event) → StandAlike a b
+    → event_changes a number event ≡ event_changes b number event
+event_changes-alike a b number event same =
+    rw (same.ram, same.running) (changes-alike a.gpu b.gpu number _ same.gpu)
 
 -- ---- events
 
-abbrev GoAlike : Result Tale EventFault → Result Tale EventFault → Type 0
+abbrev GoAlike : Result Replay EventFault → Result Replay EventFault → Type 0
 GoAlike (Ok t) (Ok u) = TellAlike t u
 GoAlike (Err f) (Err g) = f ≡ g
 GoAlike r q = ⊥
 
-told-alike : (t u : Tale) (event : Event) (cost other box_cost other_box : ℕ) (r q : Result Stepped EventFault)
+told-alike : (t u : Replay) (event : Event) (cost other box_cost other_box : ℕ) (r q : Result Stepped EventFault)
     → TellAlike t u
     → cost ≡ other → box_cost ≡ other_box → AnswerAlike r q
     → GoAlike (told_on t event cost box_cost r) (told_on u event other other_box q)
@@ -236,13 +236,13 @@ told-alike t u event cost other box_cost other_box (Ok s) (Ok z) same costs boxe
   frames = rw (
     same.frames,
     same.played,
-    ap (λ (k : Kept). frames_behind event (next_number u.played) k.parts) step.machine.gpu,
+    ap (λ (k : Kept). frames_after event (next_number u.played) k.parts) step.machine.gpu,
   ) refl;
   notes = rw (same.notes, step.notes) refl;
-  strokes = ap (λ strokes. t.strokes ++ strokes) (event_strokes-alike t.state u.state (next_number t.played) event
+  changes = ap (λ changes. t.changes ++ changes) (event_changes-alike t.state u.state (next_number t.played) event
       same.state)
-      ∙ ap (λ n. t.strokes ++ event_strokes u.state n event) (ap next_number same.played)
-      ∙ ap (λ strokes. strokes ++ event_strokes u.state (next_number u.played) event) same.strokes;
+      ∙ ap (λ n. t.changes ++ event_changes u.state n event) (ap next_number same.played)
+      ∙ ap (λ changes. changes ++ event_changes u.state (next_number u.played) event) same.changes;
   cost = rw (same.cost, costs) refl;
   box_cost = rw (same.box_cost, boxes) refl;
 }
@@ -250,7 +250,7 @@ told-alike t u event cost other box_cost other_box (Err f) (Err g) same costs bo
 told-alike t u event cost other box_cost other_box (Ok s) (Err g) same costs boxes step = absurd step
 told-alike t u event cost other box_cost other_box (Err f) (Ok z) same costs boxes step = absurd step
 
-goes-alike : (t u : Tale) (event : Event) → TellAlike t u → GoAlike (after_event t event) (after_event u event)
+goes-alike : (t u : Replay) (event : Event) → TellAlike t u → GoAlike (after_event t event) (after_event u event)
 goes-alike t u event same =
     let n = next_number t.played in
     let alike = event-alike t.state u.state n event same.state in
@@ -305,38 +305,40 @@ finals_cost-alike (Faulted number fault) mode a b same = refl
 finals_cost-alike (NoPicture number) mode a b same = refl
 finals_cost-alike (WriteFailed number) mode a b same = refl
 
-ended-alike : (t u : Tale) (ending other : Ending) (rest : List ℕ) → TellAlike t u → ending ≡ other
-    → PlayAlike (record { tale = t; ending = ending; rest = rest }) (record { tale = u; ending = other; rest = rest })
+ended-alike : (t u : Replay) (ending other : Ending) (rest : List ℕ) → TellAlike t u → ending ≡ other
+    → PlayAlike (record { replay = t; ending = ending; rest = rest })
+    (record { replay = u; ending = other; rest = rest })
 ended-alike t u ending other rest same e =
     let regs = ap (λ (k : Kept). k.parts.regs) same.state.gpu in
-    let r : Played = record { tale = t; ending = ending; rest = rest } in
-    let q : Played = record { tale = u; ending = other; rest = rest } in
+    let r : Played = record { replay = t; ending = ending; rest = rest } in
+    let q : Played = record { replay = u; ending = other; rest = rest } in
     let under : (mode : Mode) → ending_under mode r ≡ ending_under mode q = λ mode. rw (regs, same.played, e) refl in
     let cost = λ (mode : Mode). ap (λ at. finals_cost_at at mode t.state.gpu) (under mode)
     ∙ finals_cost-alike (ending_under mode q) mode t.state.gpu u.state.gpu same.state.gpu in
     record {
-      tale = same;
+      replay = same;
       ending = e;
       rest = refl;
       out = λ mode heard.
-          rw (same.shown, same.frames, same.notes, same.strokes, under mode, same.played)
-          (ap (λ finals. lines_for mode u.shown u.frames u.notes u.strokes ++ finals)
+          rw (same.shown, same.frames, same.notes, same.changes, under mode, same.played)
+          (ap (λ finals. lines_for mode u.shown u.frames u.notes u.changes ++ finals)
           (finals-alike (ending_under mode q) mode (told_notes u.notes heard) (next_number u.played) t.state.gpu
           u.state.gpu same.state.gpu));
       cost = λ mode.
-          let told : tale_cost mode t ≡ tale_cost mode u = rw (same.cost, same.frames, same.strokes) refl in
-          ap (λ more. tale_cost mode t + more) (cost mode)
+          let told : replay_cost mode t ≡ replay_cost mode u = rw (same.cost, same.frames, same.changes) refl in
+          ap (λ more. replay_cost mode t + more) (cost mode)
           ∙ ap (λ n. n + finals_cost_at (ending_under mode q) mode u.state.gpu) told;
       box_cost = λ mode.
-          let told : tale_box_cost mode t ≡ tale_box_cost mode u = rw (same.box_cost, same.frames, same.strokes) refl in
-          ap (λ more. tale_box_cost mode t + more) (cost mode)
+          let told : replay_box_cost mode t ≡ replay_box_cost mode u =
+          rw (same.box_cost, same.frames, same.changes) refl in
+          ap (λ more. replay_box_cost mode t + more) (cost mode)
           ∙ ap (λ n. n + finals_cost_at (ending_under mode q) mode u.state.gpu) told;
     }
 
 -- ---- replays
 
-go-alike : (r q : Result Tale EventFault) (on other : Tale → Played) (faulted failed : EventFault → Played)
-    → GoAlike r q → ((t u : Tale) → TellAlike t u → PlayAlike (on t) (other u))
+go-alike : (r q : Result Replay EventFault) (on other : Replay → Played) (faulted failed : EventFault → Played)
+    → GoAlike r q → ((t u : Replay) → TellAlike t u → PlayAlike (on t) (other u))
     → ((f : EventFault) → PlayAlike (faulted f) (failed f)) → PlayAlike (go_on r on faulted) (go_on q other failed)
 go-alike (Ok t) (Ok u) on other faulted failed same ok err = ok t u same
 go-alike (Err f) (Err g) on other faulted failed same ok err =
@@ -344,7 +346,7 @@ go-alike (Err f) (Err g) on other faulted failed same ok err =
 go-alike (Ok t) (Err g) on other faulted failed same ok err = absurd same
 go-alike (Err f) (Ok u) on other faulted failed same ok err = absurd same
 
-pub replay-alike : (events : List Event) (t u : Tale) (stop : Stop) (rest : List ℕ) → TellAlike t u
+pub replay-alike : (events : List Event) (t u : Replay) (stop : Stop) (rest : List ℕ) → TellAlike t u
     → PlayAlike (played_events t events stop rest) (played_events u events stop rest)
 replay-alike [] t u stop rest same =
     ended-alike t u _ _ rest same (ap (λ n. ending_of (next_number n) stop) same.played)
@@ -359,7 +361,7 @@ unfolding tall_state
 tall-alike a b same =
     let f : Kept → Kept = λ k. record { parts = tall_parts k.parts; pending = k.pending } in ap f same
 
-raised-alike : (t u : Tale) (version : ℕ) → TellAlike t u → TellAlike (raised t version) (raised u version)
+raised-alike : (t u : Replay) (version : ℕ) → TellAlike t u → TellAlike (raised t version) (raised u version)
 raised-alike t u version same = elim (cases_Bool (version == tall_version)) [
   | inl is ↦ rw is (record {
     state = record {
@@ -371,7 +373,7 @@ raised-alike t u version same = elim (cases_Bool (version == tall_version)) [
     shown = same.shown;
     frames = same.frames;
     notes = same.notes;
-    strokes = same.strokes;
+    changes = same.changes;
     cost = same.cost;
     box_cost = same.box_cost;
   })
@@ -379,7 +381,7 @@ raised-alike t u version same = elim (cases_Bool (version == tall_version)) [
 ]
 
 -- alike replays, also with earlier events
-pub played-alike : (t u : Tale) (c : Captured) → TellAlike t u → PlayAlike (played_from t c) (played_from u c)
+pub played-alike : (t u : Replay) (c : Captured) → TellAlike t u → PlayAlike (played_from t c) (played_from u c)
 played-alike t u c same =
     replay-alike c.events (raised t c.version) (raised u c.version) c.ending c.rest (raised-alike t u c.version same)
 
@@ -392,7 +394,7 @@ states-alike a b played c same =
       shown = refl;
       frames = refl;
       notes = refl;
-      strokes = refl;
+      changes = refl;
       cost = refl;
       box_cost = refl;
     })

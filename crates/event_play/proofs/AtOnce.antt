@@ -13,8 +13,8 @@ use Rattle.gpu_core.specs.Feeds.{TakesWords, feed_notes, feeds_cost}
 use Rattle.gpu_core.specs.Machine.{State, after_gp0, gp0_note}
 use Rattle.gpu_taps.specs.Bare.{after_notes}
 use Rattle.gpu_taps.specs.Tally.{Reading, capped, reading_after}
-use Rattle.event_play.specs.PlayedWords.{after_word, after_words, IsTold, number_behind}
-use Rattle.event_play.specs.Replay.{Tale, after_event, next_number}
+use Rattle.event_play.specs.PlayedWords.{after_word, after_words, IsTold, number_after}
+use Rattle.event_play.specs.Replay.{Replay, after_event, next_number}
 use Rattle.event_play.specs.Step.{event_step, event_cost, event_box_cost}
 use Rattle.event_play.specs.Streams.{Outlets}
 use Rattle.event_play.specs.Told.{told_notes}
@@ -22,7 +22,7 @@ use Rattle.event_play.proofs.Feeds.{told-append}
 
 -- ---- the replay after them
 
-pub after_words-append : (t : Tale) (xs ys : List ℕ) → after_words t (xs ++ ys) ≡ after_words (after_words t xs) ys
+pub after_words-append : (t : Replay) (xs ys : List ℕ) → after_words t (xs ++ ys) ≡ after_words (after_words t xs) ys
 after_words-append t xs ys = fold-append after_word t xs ys
 
 -- the first `at` words, and then `count` of those after them
@@ -43,7 +43,7 @@ rest_both words at le =
     ap (λ xs. take at words ++ xs) all ∙ take-append-drop at words
 
 -- The event of a word has no fault and leads to the replay with that word.
-pub word_is : (t : Tale) (word : ℕ) → after_event t (Gp0 word) ≡ Ok (after_word t word)
+pub word_is : (t : Replay) (word : ℕ) → after_event t (Gp0 word) ≡ Ok (after_word t word)
 unfolding event_step event_cost event_box_cost
 word_is t word =
     let n = next_number t.played in
@@ -58,16 +58,16 @@ word_is t word =
     )
     refl
 
-state_is : (t : Tale) (words : List ℕ) → (after_words t words).state.gpu ≡ fold after_gp0 t.state.gpu words
+state_is : (t : Replay) (words : List ℕ) → (after_words t words).state.gpu ≡ fold after_gp0 t.state.gpu words
 state_is t [] = refl
 state_is t (word ∷ words) = state_is (after_word t word) words
 
-cost_is : (t : Tale) (words : List ℕ) → (after_words t words).cost ≡ t.cost + feeds_cost t.state.gpu words
+cost_is : (t : Replay) (words : List ℕ) → (after_words t words).cost ≡ t.cost + feeds_cost t.state.gpu words
 cost_is t [] = omega arith
 cost_is t (word ∷ words) = let e = cost_is (after_word t word) words in omega (arith, e)
 
-number_is : (t : Tale) (words : List ℕ) → t.played < 2 ^ 64
-    → (after_words t words).played ≡ number_behind t.played (length words)
+number_is : (t : Replay) (words : List ℕ) → t.played < 2 ^ 64
+    → (after_words t words).played ≡ number_after t.played (length words)
 number_is t [] lt = omega (arith, lt)
 number_is t (word ∷ words) lt = let e = number_is (after_word t word) words (omega arith) in omega (arith, e)
 
@@ -80,7 +80,7 @@ same_numbers s a b (word ∷ words) e =
     ap (λ n. option_to_list (gp0_note s n word) ++ feed_notes (after_gp0 s word) (a + 1) words) e
     ∙ ap (λ notes. option_to_list (gp0_note s (capped b) word) ++ notes) next
 
-notes_are : (t : Tale) (words : List ℕ) → (after_words t words).notes ≡ t.notes ++ feed_notes t.state.gpu
+notes_are : (t : Replay) (words : List ℕ) → (after_words t words).notes ≡ t.notes ++ feed_notes t.state.gpu
     (t.played + 1) words
 notes_are t [] = sym (append-nil t.notes)
 notes_are t (word ∷ words) =
@@ -106,13 +106,13 @@ told_each notes (reading ∷ readings) =
     more [] reading readings = refl
     more (note ∷ notes) reading readings = more notes (reading_after note reading) (map (reading_after note) readings)
 
-pub words_told : (t : Tale) (first before now : Outlets) (was gpu : Kept) (played : ℕ) (words : List ℕ)
+pub words_told : (t : Replay) (first before now : Outlets) (was gpu : Kept) (played : ℕ) (words : List ℕ)
     → played < 2 ^ 64
     → IsTold t first before was played
     → ((s : State) → kept_of s ≡ was
     → TakesWords s (played + 1) words (record { heard = before.heard; steps = before.steps })
     (record { gpu = gpu; heard = now.heard; steps = now.steps }))
-    → IsTold (after_words t words) first now gpu (number_behind played (length words))
+    → IsTold (after_words t words) first now gpu (number_after played (length words))
 words_told t first before now was gpu played words lt told takes =
     let did = takes t.state.gpu told.state in
     let number = told.number in
@@ -121,7 +121,7 @@ words_told t first before now was gpu played words lt told takes =
     ≡ notes = ap (λ n. feed_notes t.state.gpu (n + 1) words) number in
     record {
       state = ap kept_of (state_is t words) ∙ did.feed;
-      number = number_is t words (omega (arith, number, lt)) ∙ ap (λ n. number_behind n (length words)) number;
+      number = number_is t words (omega (arith, number, lt)) ∙ ap (λ n. number_after n (length words)) number;
       heard = did.told ∙ told_each notes before.heard ∙ ap (told_notes notes) told.heard
           ∙ sym (told-append t.notes notes first.heard)
           ∙ ap (λ notes. told_notes notes first.heard)
@@ -130,14 +130,14 @@ words_told t first before now was gpu played words lt told takes =
     }
 
 -- The words after the first ones were played too.
-pub told_on : (t : Tale) (first now : Outlets) (gpu : Kept) (played : ℕ) (xs ys all : List ℕ) → xs ++ ys ≡ all
+pub told_on : (t : Replay) (first now : Outlets) (gpu : Kept) (played : ℕ) (xs ys all : List ℕ) → xs ++ ys ≡ all
     → IsTold (after_words (after_words t xs) ys) first now gpu played → IsTold (after_words t all) first now gpu played
 told_on t first now gpu played xs ys all both told =
-    let P : Tale → Type 0 = λ tale. IsTold tale first now gpu played in
+    let P : Replay → Type 0 = λ replay. IsTold replay first now gpu played in
     subst P (sym (after_words-append t xs ys) ∙ ap (after_words t) both) told
 
 -- the same for the first of the words after the first ones
-pub told_first : (t : Tale) (first now : Outlets) (gpu : Kept) (words : List ℕ) (at count number counted : ℕ)
+pub told_first : (t : Replay) (first now : Outlets) (gpu : Kept) (words : List ℕ) (at count number counted : ℕ)
     → at ≤ length words → counted ≡ number
     → IsTold (after_words (after_words t (take at words)) (take count (take (length words - at) (drop at words)))) first
     now gpu number

@@ -11,14 +11,14 @@ use Rattle.event_play.specs.RigState.{RigState, Stands, machine_of}
 use Rattle.event_play.specs.Step.{Machine, Stepped, asked_words, event_step, event_cost, event_words, done}
 use Rattle.event_play.specs.Stepping.{HasStepped, numbered}
 use Rattle.event_play.specs.Streams.{Outlets}
-use Rattle.event_play.specs.Strokes.{event_strokes}
-use Rattle.event_play.specs.Work.{work_of}
+use Rattle.event_play.specs.Changes.{event_changes}
+use Rattle.event_play.specs.Operation.{operation_of}
 use Rattle.event_play.specs.declared.ending.Mode.{Mode}
 use Rattle.event_play.specs.declared.ending.Mode.TheVariants.{Vram}
 use Rattle.event_play.specs.declared.fault.EventFault.{EventFault}
-use Rattle.event_play.specs.declared.work.Work.{Work}
-use Rattle.event_play.specs.declared.work.Work.TheVariants as work
-use Rattle.event_play.specs.Setting.{setting}
+use Rattle.event_play.specs.declared.operation.Operation.{Operation}
+use Rattle.event_play.specs.declared.operation.Operation.TheVariants as operation
+use Rattle.event_play.specs.PlayState.{play_state}
 
 -- A machine that agrees with a rig is the rig's machine with its own GPU state.
 pub stands_is : (rig : RigState) (s : Machine) → Stands rig s → machine_of rig s.gpu ≡ s
@@ -28,37 +28,37 @@ stands_is rig s stands =
     (sym stands.running)
 
 pub step_fault : (rig : RigState) (s : Machine) (number : ℕ) (event : Event) (fault : EventFault) → Stands rig s
-    → Err fault ≡ work_of rig.ram rig.running event → event_step s number event ≡ Err fault
+    → Err fault ≡ operation_of rig.ram rig.running event → event_step s number event ≡ Err fault
 unfolding event_step
 step_fault rig s number event fault stands asked = rw (stands.ram, stands.running, ← asked) refl
 
 -- An operation has the notes of the words that it feeds.
-notes_are : (s : Machine) (number : ℕ) (asked : Work)
+notes_are : (s : Machine) (number : ℕ) (asked : Operation)
     → (done s number asked).notes ≡ fed_notes s.gpu number (asked_words s.ram (Ok asked))
-notes_are s number work.Nothing = refl
-notes_are s number (work.Put address word) = refl
-notes_are s number (work.Feed asked next) = refl
-notes_are s number (work.Take block next) = refl
-notes_are s number (work.Control word) = refl
-notes_are s number work.Read = refl
-notes_are s number work.Skip = refl
-notes_are s number work.Stat = refl
-notes_are s number (work.Clear madr n) = refl
-notes_are s number (work.Begin next) = refl
+notes_are s number operation.Nothing = refl
+notes_are s number (operation.Put address word) = refl
+notes_are s number (operation.Feed asked next) = refl
+notes_are s number (operation.Take block next) = refl
+notes_are s number (operation.Control word) = refl
+notes_are s number operation.Read = refl
+notes_are s number operation.Skip = refl
+notes_are s number operation.Stat = refl
+notes_are s number (operation.Clear madr n) = refl
+notes_are s number (operation.Begin next) = refl
 
 -- An event was played with `at` store steps; the other steps are those of the lines of its words.
 pub record HasDone (mode : Mode) (s : Machine) (number : ℕ) (event : Event) (shown : Option ℕ) (before now : Outlets)
     (rig : RigState) : Type 0 where
   pub at : ℕ
-  pub step : HasStepped s (numbered number event) shown before (setting (record now { steps = at }) rig)
+  pub step : HasStepped s (numbered number event) shown before (play_state (record now { steps = at }) rig)
   pub asked_notes : step.notes ≡ fed_notes s.gpu number (event_words s event)
-  pub spent : now.steps ≤ at + lines_cost mode [] (event_strokes s number event)
+  pub spent : now.steps ≤ at + lines_cost mode [] (event_changes s number event)
 
 -- In a mode without lines, all store steps are those of the event.
 pub only_stepped : (s : Machine) (number : ℕ) (event : Event) (shown : Option ℕ) (before now : Outlets)
     (rig : RigState)
     → HasDone Vram s number event shown before now rig
-    → HasStepped s (numbered number event) shown before (setting now rig)
+    → HasStepped s (numbered number event) shown before (play_state now rig)
 only_stepped s number event shown before now rig did = record {
   machine = did.step.machine;
   notes = did.step.notes;
@@ -68,11 +68,12 @@ only_stepped s number event shown before now rig did = record {
   cost = let c = did.step.cost in let spent = did.spent in omega (arith, c, spent);
 }
 
-module _ (mode : Mode) (was mid rig : RigState) (number counted : ℕ) (event : Event) (asked : Work) (shown : Option ℕ)
+module _ (mode : Mode) (was mid rig : RigState) (number counted : ℕ) (event : Event) (asked : Operation)
+    (shown : Option ℕ)
     (before now : Outlets)
-    (is : Ok asked ≡ work_of was.ram was.running event) (same : mid ≡ rig)
+    (is : Ok asked ≡ operation_of was.ram was.running event) (same : mid ≡ rig)
     (does : (s : State) → kept_of s ≡ was.gpu → (shown ≡ (done (machine_of was s) number asked).shown)
-    × Does (in_event number mode) (machine_of was s) asked before (setting now rig)) where
+    × Does (in_event number mode) (machine_of was s) asked before (play_state now rig)) where
   pub has_done : (s : Machine) → Stands was s → HasDone mode s number event shown before now
       (record mid { played = counted })
   unfolding event_step event_cost

@@ -14,9 +14,9 @@ use Rattle.px_num.specs.declared.shape.Cell.{Cell}
 use Rattle.packet_text.specs.Line.{listed}
 use Rattle.event_play.specs.Fed.{fed, fed_notes, fed_cost}
 use Rattle.event_play.specs.Feeding.{Feeds, StopsFeeding, FeedsWords, drawing, fed_lines, fed_lines_cost, in_event}
-use Rattle.event_play.specs.Lines.{IsGathered, lines_while, lines_cost}
+use Rattle.event_play.specs.Lines.{IsBuffered, lines_while, lines_cost}
 use Rattle.event_play.specs.Streams.{Outlets, sink_of}
-use Rattle.event_play.specs.Strokes.{Stroke, stroke_of, fed_strokes, seen_cell, change_of}
+use Rattle.event_play.specs.Changes.{Change, word_change, fed_changes, seen_cell, cell_change_line}
 use Rattle.event_play.specs.Told.{told_notes}
 use Rattle.event_play.specs.declared.ending.Mode.{Mode}
 use Rattle.event_play.specs.declared.ending.Mode.TheVariants.{Vram, Shot, Report, Frames, Sums, Pixel}
@@ -45,27 +45,27 @@ pub told-append : (notes others : List Note) (readings : List Reading)
     → told_notes (notes ++ others) readings ≡ told_notes others (told_notes notes readings)
 told-append notes others readings = fold-append _ readings notes others
 
-pub fed_strokes-append : (s : State) (number : ℕ) (xs ys : List ℕ)
-    → fed_strokes s number (xs ++ ys) ≡ fed_strokes s number xs ++ fed_strokes (fed s xs) number ys
-fed_strokes-append s number [] ys = refl
-fed_strokes-append s number (x ∷ xs) ys =
-    ap (λ strokes. stroke_of s number x ∷ strokes) (fed_strokes-append (after_gp0 s x) number xs ys)
+pub fed_changes-append : (s : State) (number : ℕ) (xs ys : List ℕ)
+    → fed_changes s number (xs ++ ys) ≡ fed_changes s number xs ++ fed_changes (fed s xs) number ys
+fed_changes-append s number [] ys = refl
+fed_changes-append s number (x ∷ xs) ys =
+    ap (λ changes. word_change s number x ∷ changes) (fed_changes-append (after_gp0 s x) number xs ys)
 
 pub fed_lines-append : (mode : Mode) (s : State) (number : ℕ) (xs ys : List ℕ)
     → fed_lines mode s number (xs ++ ys) ≡ fed_lines mode s number xs ++ fed_lines mode (fed s xs) number ys
 fed_lines-append mode s number xs ys =
     let notes = fed_notes s number xs in
     let others = fed_notes (fed s xs) number ys in
-    ap (λ notes. lines_while mode notes (fed_strokes s number (xs ++ ys))) (fed_notes-append s number xs ys)
-    ∙ ap (lines_while mode (notes ++ others)) (fed_strokes-append s number xs ys)
-    ∙ lines-append mode [] [] [] [] notes others (fed_strokes s number xs) (fed_strokes (fed s xs) number ys)
+    ap (λ notes. lines_while mode notes (fed_changes s number (xs ++ ys))) (fed_notes-append s number xs ys)
+    ∙ ap (lines_while mode (notes ++ others)) (fed_changes-append s number xs ys)
+    ∙ lines-append mode [] [] [] [] notes others (fed_changes s number xs) (fed_changes (fed s xs) number ys)
 
 pub fed_looks-append : (mode : Mode) (s : State) (number : ℕ) (xs ys : List ℕ)
-    → lines_cost mode [] (fed_strokes s number (xs ++ ys))
-    ≡ lines_cost mode [] (fed_strokes s number xs) + lines_cost mode [] (fed_strokes (fed s xs) number ys)
+    → lines_cost mode [] (fed_changes s number (xs ++ ys))
+    ≡ lines_cost mode [] (fed_changes s number xs) + lines_cost mode [] (fed_changes (fed s xs) number ys)
 fed_looks-append mode s number xs ys =
-    ap (lines_cost mode []) (fed_strokes-append s number xs ys)
-    ∙ lines_cost-append mode [] [] (fed_strokes s number xs) (fed_strokes (fed s xs) number ys)
+    ap (lines_cost mode []) (fed_changes-append s number xs ys)
+    ∙ lines_cost-append mode [] [] (fed_changes s number xs) (fed_changes (fed s xs) number ys)
 
 pub fed_lines_cost-append : (mode : Mode) (s : State) (number : ℕ) (xs ys : List ℕ)
     → fed_lines_cost mode s number (xs ++ ys)
@@ -122,34 +122,34 @@ word_lines s number word note noted =
 
 -- ---- no line
 
-while_quiet : (mode : Mode) (notes : List Note) (strokes : List Stroke) → (IsGathered mode → ⊥)
-    → lines_while mode notes strokes ≡ []
-while_quiet Listing notes strokes not = absurd (not tt)
-while_quiet (Pixel cell) notes strokes not = absurd (not tt)
-while_quiet Words notes strokes not = refl
-while_quiet Vram notes strokes not = refl
-while_quiet Shot notes strokes not = refl
-while_quiet Report notes strokes not = refl
-while_quiet (Frames at) notes strokes not = refl
-while_quiet (Sums at) notes strokes not = refl
+while_quiet : (mode : Mode) (notes : List Note) (changes : List Change) → (IsBuffered mode → ⊥)
+    → lines_while mode notes changes ≡ []
+while_quiet Listing notes changes not = absurd (not tt)
+while_quiet (Pixel cell) notes changes not = absurd (not tt)
+while_quiet Words notes changes not = refl
+while_quiet Vram notes changes not = refl
+while_quiet Shot notes changes not = refl
+while_quiet Report notes changes not = refl
+while_quiet (Frames at) notes changes not = refl
+while_quiet (Sums at) notes changes not = refl
 
 -- a word was fed that has no line
 pub quiet_feeds : (mode : Mode) (number word : ℕ) (note : Option Note) (before now : Outlets) (was gpu : Kept)
-    → (IsGathered mode → ⊥)
-    → now.held ≡ before.held → now.faults ≡ before.faults → now.gathered ≡ before.gathered
+    → (IsBuffered mode → ⊥)
+    → now.held ≡ before.held → now.faults ≡ before.faults → now.buffered ≡ before.buffered
     → ((s : State) → kept_of s ≡ was → kept_of (after_gp0 s word) ≡ gpu)
     → ((s : State) → kept_of s ≡ was → gp0_note s number word ≡ note)
     → now.heard ≡ told_option note before.heard
     → ((s : State) → kept_of s ≡ was → now.steps ≤ before.steps + gp0_cost s word)
     → FeedsWords {Value = Unit {0}} (in_event number mode) (word ∷ []) (drawing before was) (drawing now gpu) (Ok tt)
-quiet_feeds mode number word note before now was gpu not held faults gathered stands noted told cost = record {
+quiet_feeds mode number word note before now was gpu not held faults buffered stands noted told cost = record {
   ok = λ s is. word_feeds mode s number word note before now gpu (stands s is) (noted s is) told (cost s is);
   failed = λ s is. tt;
   puts = λ s is.
       puts_none number (fed_lines mode s number (word ∷ [])) (sink_of before) (sink_of now) tt
-      (while_quiet mode (fed_notes s number (word ∷ [])) (fed_strokes s number (word ∷ [])) not) held faults gathered;
-  kept = inr gathered;
-  gathers = tt;
+      (while_quiet mode (fed_notes s number (word ∷ [])) (fed_changes s number (word ∷ [])) not) held faults buffered;
+  kept = inr buffered;
+  buffers = tt;
   cause = tt;
   faults = omega (arith, faults);
 }
@@ -158,7 +158,7 @@ quiet_feeds mode number word note before now was gpu not held faults gathered st
 pub watched_lines : (cell : Cell) (s : State) (number word : ℕ) (item : Option Note) (was gpu : Kept) (old new : ℕ)
     → kept_of s ≡ was → kept_of (after_gp0 s word) ≡ gpu → gp0_note s number word ≡ item
     → old ≡ seen_cell cell was.parts.m → new ≡ seen_cell cell gpu.parts.m
-    → change_of item old new ≡ fed_lines (Pixel cell) s number (word ∷ [])
+    → cell_change_line item old new ≡ fed_lines (Pixel cell) s number (word ∷ [])
 watched_lines cell s number word item was gpu old new is stands noted saw sees =
     let first : seen_cell cell s.parts.m ≡ old = ap (λ (k : Kept). seen_cell cell k.parts.m) is ∙ sym saw in
     let last : seen_cell cell (after_gp0 s word).parts.m
@@ -254,7 +254,7 @@ pub record AreFed (mode : Mode) (number : ℕ) (words : List ℕ) (before now : 
   pub feeds : (s : State) → kept_of s ≡ was → Feeds (in_event number mode) s words before (drawing now gpu)
   pub put : (s : State) → kept_of s ≡ was → HasPut (piece number (fed_lines mode s number words))
       (sink_of before) (sink_of now)
-  pub kept : IsGathered mode ⊎ (now.gathered ≡ before.gathered)
+  pub kept : IsBuffered mode ⊎ (now.buffered ≡ before.buffered)
   pub faults : before.faults ≤ now.faults
 
 pub fed_none : (mode : Mode) (number : ℕ) (at : Outlets) (gpu : Kept) → AreFed mode number [] at at gpu gpu
@@ -278,13 +278,13 @@ words_fed mode number words xs before now was gpu v are all = record {
       rw are
       (puts_all (piece number (fed_lines mode s number xs)) (sink_of before) (sink_of now) v (all.put s is));
   kept = all.kept;
-  gathers = tt;
+  buffers = tt;
   cause = tt;
   faults = all.faults;
 }
 
-kept_on : (mode : Mode) (before mid now : List Piece) → IsGathered mode ⊎ (mid ≡ before)
-    → IsGathered mode ⊎ (now ≡ mid) → IsGathered mode ⊎ (now ≡ before)
+kept_on : (mode : Mode) (before mid now : List Piece) → IsBuffered mode ⊎ (mid ≡ before)
+    → IsBuffered mode ⊎ (now ≡ mid) → IsBuffered mode ⊎ (now ≡ before)
 kept_on mode before mid now (inl is) next = inl is
 kept_on mode before mid now (inr same) (inl is) = inl is
 kept_on mode before mid now (inr same) (inr next) = inr (next ∙ same)
@@ -305,7 +305,7 @@ module _ {Value : Type 0} (mode : Mode) (number : ℕ) (xs ys : List ℕ) (befor
         rw (fed_lines-append mode s number xs ys)
         (put_on number (sink_of before) (sink_of mid) (sink_of now) (fed_lines mode s number xs)
         (fed_lines mode (fed s xs) number ys) v (first.put s is) (next.puts (fed s xs) so_far.stands));
-    kept = kept_on mode before.gathered mid.gathered now.gathered first.kept next.kept;
+    kept = kept_on mode before.buffered mid.buffered now.buffered first.kept next.kept;
     faults = let a = first.faults in let b = next.faults in omega (arith, a, b);
   }
 
@@ -330,8 +330,8 @@ module _ {Value : Type 0} (mode : Mode) (number : ℕ) (xs ys : List ℕ) (befor
         rw all
         (put_fails number (sink_of before) (sink_of mid) (sink_of now) a b c e (first.put s is)
         (next.puts (fed s xs) so_far.stands));
-    kept = kept_on mode before.gathered mid.gathered now.gathered first.kept next.kept;
-    gathers = next.gathers;
+    kept = kept_on mode before.buffered mid.buffered now.buffered first.kept next.kept;
+    buffers = next.buffers;
     cause = let a = first.faults in let b = next.cause in omega (arith, a, b);
     faults = let a = first.faults in let b = next.faults in omega (arith, a, b);
   }

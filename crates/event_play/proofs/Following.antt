@@ -2,7 +2,7 @@
 use Rattle.std.proofs.Common.{◌≡◌, ◌<◌, inl, inr, ◌++◌, ℕ, zero, suc, List, [], ◌∷◌, Option, Ok, refl, ap, sym}
 use Rattle.std.proofs.Common.{◌∙◌, append_assoc, append-nil, add-zero, take, length, subst, arith}
 use Rattle.gpu_capture.specs.Capture.{Captured, ended, then_events}
-use Rattle.gpu_capture.specs.Reader.{AreNeeded as ReaderNeeds, capture_from, standing}
+use Rattle.gpu_capture.specs.Reader.{AreNeeded as ReaderNeeds, capture_from, reader_input}
 use Rattle.gpu_capture.specs.Reading.{AreNeeded, IsCutShort, SaysFirst}
 use Rattle.gpu_capture.specs.Words.{TakesWords, word_events}
 use Rattle.gpu_capture.specs.declared.event.Event.{Event}
@@ -11,33 +11,33 @@ use Rattle.gpu_capture.specs.declared.event.Stop.TheVariants.{Truncated}
 use Rattle.gpu_capture.specs.declared.progress.Progress.{Progress}
 use Rattle.gpu_capture.proofs.Steps.{split}
 use Rattle.event_play.specs.Playing.{Follows, IsReadTo, LeadsTo, reads}
-use Rattle.event_play.specs.Replay.{Tale, Script, after_event, go_on, part_fed, played_events, next_number}
+use Rattle.event_play.specs.Replay.{Replay, Script, after_event, go_on, part_fed, played_events, next_number}
 use Rattle.event_play.specs.Step.{event_words}
 use Rattle.event_play.specs.declared.ending.Ending.TheVariants.{Faulted}
 
 -- ---- replays
 
-pub follows_none : (first : Tale) → Follows first [] first
+pub follows_none : (first : Replay) → Follows first [] first
 follows_none first = record { replays = λ more stop rest. refl }
 
 -- one more event
-pub follows_on : (first t next : Tale) (events : List Event) (event : Event) → Follows first events t
+pub follows_on : (first t next : Replay) (events : List Event) (event : Event) → Follows first events t
     → after_event t event ≡ Ok next → Follows first (events ++ event ∷ []) next
 follows_on first t next events event was is = record {
   replays = λ more stop rest.
       ap (λ (es : List Event). played_events first es stop rest) (append_assoc events (event ∷ []) more)
       ∙ was.replays (event ∷ more) stop rest
       ∙ ap (λ r. go_on r (λ next. played_events next more stop rest)
-      (λ fault. record { tale = t; ending = Faulted (next_number t.played) fault; rest = rest })) is;
+      (λ fault. record { replay = t; ending = Faulted (next_number t.played) fault; rest = rest })) is;
 }
 
 -- more events, which continue from the replay
-pub follows_all : (first t next : Tale) (events others : List Event) → Follows first events t
+pub follows_all : (first t next : Replay) (events others : List Event) → Follows first events t
     → Follows t others next → Follows first (events ++ others) next
-follows_all first t next events others was behind = record {
+follows_all first t next events others was after = record {
   replays = λ more stop rest.
       ap (λ (es : List Event). played_events first es stop rest) (append_assoc events others more)
-      ∙ was.replays (others ++ more) stop rest ∙ behind.replays more stop rest;
+      ∙ was.replays (others ++ more) stop rest ∙ after.replays more stop rest;
 }
 
 -- ---- the bytes read
@@ -96,19 +96,19 @@ word_short read events (word ∷ words) part (suc count) version byte fewer is =
     (append_assoc events (Gp0 word ∷ []) (word_events words)) later
 
 -- The bytes read say these events, and then what the format says from the reader's offset on. None of them is
--- unnecessary for the last event. The events `events` lead to the replay; those of `behind` were read and not played.
-pub record ReadsTo (script : List ℕ → Script) (p : Progress) (t : Tale) (taken : List ℕ) (events behind : List Event)
+-- unnecessary for the last event. The events `events` lead to the replay; those of `after` were read and not played.
+pub record ReadsTo (script : List ℕ → Script) (p : Progress) (t : Replay) (taken : List ℕ) (events after : List Event)
     : Type 0 where
-  pub first : Tale
+  pub first : Replay
   pub version : ℕ
   pub begins : (rest : List ℕ) → (script (taken ++ rest)).first ≡ first
-  pub says : (rest : List ℕ) → reads script (taken ++ rest) ≡ then_events (events ++ behind) (capture_from p rest)
+  pub says : (rest : List ℕ) → reads script (taken ++ rest) ≡ then_events (events ++ after) (capture_from p rest)
   pub version_is : (rest : List ℕ) → (capture_from p rest).version ≡ version
-  pub needed : AreNeeded (reads script) (events ++ behind) taken
+  pub needed : AreNeeded (reads script) (events ++ after) taken
   pub follows : Follows first events t
 
 -- an event that was read and not played yet
-pub read_to : (script : List ℕ → Script) (p : Progress) (t : Tale) (taken : List ℕ) (events : List Event)
+pub read_to : (script : List ℕ → Script) (p : Progress) (t : Replay) (taken : List ℕ) (events : List Event)
     (event : Event) → ReadsTo script p t taken events (event ∷ []) → IsReadTo script t taken events event
 read_to script p t taken events event read = record {
   first = read.first;
@@ -120,14 +120,14 @@ read_to script p t taken events event read = record {
 }
 
 -- The bytes read say these events first, and these lead to the replay.
-pub record ReadsAll (script : List ℕ → Script) (t : Tale) (taken : List ℕ) (events : List Event) : Type 0 where
-  pub first : Tale
+pub record ReadsAll (script : List ℕ → Script) (t : Replay) (taken : List ℕ) (events : List Event) : Type 0 where
+  pub first : Replay
   pub version : ℕ
   pub begins : (rest : List ℕ) → (script (taken ++ rest)).first ≡ first
   pub says : SaysFirst (reads script) version taken events
   pub follows : Follows first events t
 
-pub reads_all : (script : List ℕ → Script) (p : Progress) (t : Tale) (taken : List ℕ) (events : List Event)
+pub reads_all : (script : List ℕ → Script) (p : Progress) (t : Replay) (taken : List ℕ) (events : List Event)
     → ReadsTo script p t taken events [] → ReadsAll script t taken events
 reads_all script p t taken events read = record {
   first = read.first;
@@ -142,7 +142,7 @@ reads_all script p t taken events read = record {
 }
 
 -- the same after more bytes are read
-pub reads_further : (script : List ℕ → Script) (t : Tale) (taken further : List ℕ) (events : List Event)
+pub reads_further : (script : List ℕ → Script) (t : Replay) (taken further : List ℕ) (events : List Event)
     → ReadsAll script t taken events → ReadsAll script t (taken ++ further) events
 reads_further script t taken further events all = record {
   first = all.first;
@@ -157,48 +157,48 @@ reads_further script t taken further events all = record {
 -- ---- the last replay
 
 -- all events were played
-pub leads_all : (first t : Tale) (events : List Event) → Follows first events t → LeadsTo first events t
+pub leads_all : (first t : Replay) (events : List Event) → Follows first events t → LeadsTo first events t
 leads_all first t events follows = record {
   played = events;
   unplayed = [];
   are = sym (append-nil events);
-  tale = t;
+  replay = t;
   follows = follows;
   up_to = refl;
 }
 
 -- of the last event, the first words were fed
-pub leads_part : (first t : Tale) (events : List Event) (event : Event) (words more : List ℕ)
+pub leads_part : (first t : Replay) (events : List Event) (event : Event) (words more : List ℕ)
     → Follows first events t → event_words t.state event ≡ words ++ more
     → LeadsTo first (events ++ event ∷ []) (part_fed t words)
 leads_part first t events event words more follows are = record {
   played = events;
   unplayed = event ∷ [];
   are = refl;
-  tale = t;
+  replay = t;
   follows = follows;
   up_to = (words, more, are, refl);
 }
 
 -- of the last event, no word was fed
-pub leads_before : (first t : Tale) (events : List Event) (event : Event) → Follows first events t
+pub leads_before : (first t : Replay) (events : List Event) (event : Event) → Follows first events t
     → LeadsTo first (events ++ event ∷ []) t
 leads_before first t events event follows = record {
   played = events;
   unplayed = event ∷ [];
   are = refl;
-  tale = t;
+  replay = t;
   follows = follows;
   up_to = (
     [],
     event_words t.state event,
     refl,
-    sym (rw (append-nil t.notes, append-nil t.strokes, add-zero t.cost, add-zero t.box_cost) refl),
+    sym (rw (append-nil t.notes, append-nil t.changes, add-zero t.cost, add-zero t.box_cost) refl),
   );
 }
 
 -- the event was played
-pub read_played : (script : List ℕ → Script) (p : Progress) (t next : Tale) (taken : List ℕ) (events : List Event)
+pub read_played : (script : List ℕ → Script) (p : Progress) (t next : Replay) (taken : List ℕ) (events : List Event)
     (event : Event) → ReadsTo script p t taken events (event ∷ []) → after_event t event ≡ Ok next
     → ReadsTo script p next taken (events ++ event ∷ []) []
 read_played script p t next taken events event read is = record {
@@ -217,7 +217,7 @@ then_both events others c =
     ap (λ (all : List Event). record { version = c.version; events = all; ending = c.ending; rest = c.rest })
     (sym (append_assoc events others c.events))
 
-module _ (script : List ℕ → Script) (old new : Progress) (t : Tale) (xs ys : List ℕ) (events others : List Event)
+module _ (script : List ℕ → Script) (old new : Progress) (t : Replay) (xs ys : List ℕ) (events others : List Event)
     (read : ReadsTo script old t xs events [])
     (says : (rest : List ℕ) → capture_from old (ys ++ rest) ≡ then_events others (capture_from new rest)) where
   says_so_far : (rest : List ℕ) → reads script (xs ++ rest) ≡ then_events events (capture_from old rest)
@@ -231,7 +231,7 @@ module _ (script : List ℕ → Script) (old new : Progress) (t : Tale) (xs ys :
       → AreNeeded (reads script) (events ++ others) (xs ++ ys)
   both_needed later part more is some =
       elim (split xs ys part more is) [
-        | inl behind ↦ later behind.0 more behind.2 some part (ap (reads script) behind.1 ∙ says_so_far behind.0)
+        | inl after ↦ later after.0 more after.2 some part (ap (reads script) after.1 ∙ says_so_far after.0)
         | inr inside ↦
             short_on (reads script) events others part
             (rw (append-nil events) at (read.needed part inside.0 inside.1 inside.2))
@@ -250,7 +250,7 @@ module _ (script : List ℕ → Script) (old new : Progress) (t : Tale) (xs ys :
   begins_both rest = ap (λ bytes. (script bytes).first) (append_assoc xs ys rest) ∙ read.begins (ys ++ rest)
 
 -- one more event was read
-pub read_on : (script : List ℕ → Script) (old new : Progress) (t : Tale) (xs ys : List ℕ) (events : List Event)
+pub read_on : (script : List ℕ → Script) (old new : Progress) (t : Replay) (xs ys : List ℕ) (events : List Event)
     (event : Event)
     → ReadsTo script old t xs events [] → ReaderNeeds old ys
     → ((rest : List ℕ) → capture_from old (ys ++ rest) ≡ then_events (event ∷ []) (capture_from new rest))
@@ -278,12 +278,12 @@ read_on script old new t xs ys events event read needed says = record {
 }
 
 -- words were read and played, one event per word
-pub read_words : (script : List ℕ → Script) (old new : Progress) (before now : Option (List ℕ)) (t next : Tale)
+pub read_words : (script : List ℕ → Script) (old new : Progress) (before now : Option (List ℕ)) (t next : Replay)
     (xs words : List ℕ) (events : List Event)
-    → ReadsTo script old t xs events [] → (takes : TakesWords (standing old before) (standing new now) words)
+    → ReadsTo script old t xs events [] → (takes : TakesWords (reader_input old before) (reader_input new now) words)
     → Follows t (word_events words) next
     → ReadsTo script new next (xs ++ takes.taken) (events ++ word_events words) []
-read_words script old new before now t next xs words events read takes behind =
+read_words script old new before now t next xs words events read takes after =
     let others = word_events words in
     let ys = takes.taken in
     record {
@@ -298,11 +298,11 @@ read_words script old new before now t next xs words events read takes behind =
           let short = takes.needed part more is some in
           word_short (reads script) events words whole short.count short.version short.byte short.fewer
           (said ∙ ap (then_events events) short.is)));
-      follows = follows_all read.first t next events others read.follows behind;
+      follows = follows_all read.first t next events others read.follows after;
     }
 
 -- the first event that a reader returns
-pub read_first : (script : List ℕ → Script) (start new : Progress) (first : Tale) (taken : List ℕ) (event : Event)
+pub read_first : (script : List ℕ → Script) (start new : Progress) (first : Replay) (taken : List ℕ) (event : Event)
     (version : ℕ)
     → ((bytes : List ℕ) → reads script bytes ≡ capture_from start bytes)
     → ((rest : List ℕ) → (script (taken ++ rest)).first ≡ first)

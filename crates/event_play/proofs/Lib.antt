@@ -1,6 +1,6 @@
 pub mod AtOnce
 pub mod Awaiting
-pub mod Behind
+pub mod After
 pub mod BoxCosts
 pub mod Feeds
 pub mod Nodes
@@ -15,7 +15,7 @@ pub mod Reaching
 pub mod Reports
 pub mod Rests
 pub mod Turns
-pub mod Works
+pub mod Operations
 pub mod Firsts
 pub mod Following
 pub mod InARow

@@ -8,7 +8,7 @@ use Rattle.std.proofs.lemmas.List.{map-append}
 use Rattle.std.proofs.lemmas.List.Elements.{filter-append}
 use Rattle.gathered_out.specs.Pieces.{AreOut, BreaksOff, Piece, piece}
 use Rattle.gathered_out.specs.Puts.{ArePieces, BreaksWriting, Holding, IsPut, holding}
-use Rattle.gathered_out.proofs.Gathers.{Gathers, gathers_on}
+use Rattle.gathered_out.proofs.Buffers.{Buffers, buffers_on}
 use Rattle.gp0_packets.specs.declared.note.Note.{Note}
 use Rattle.gp0_words.specs.declared.item.Item.{Item}
 use Rattle.gp1_status.specs.Registers.{Registers}
@@ -24,7 +24,7 @@ use Rattle.event_play.specs.Listing.{ArePut, PutsPieces, listed_pieces}
 use Rattle.event_play.specs.Out.{lines_of}
 use Rattle.event_play.specs.PlayedWords.{after_word, after_words, word_notes}
 use Rattle.event_play.specs.Playing.{Follows, reads}
-use Rattle.event_play.specs.Replay.{Tale, Script, next_number}
+use Rattle.event_play.specs.Replay.{Replay, Script, next_number}
 use Rattle.event_play.specs.declared.ending.Mode.TheVariants.{List as Listing}
 use Rattle.event_play.proofs.AtOnce.{same_numbers, word_is}
 use Rattle.event_play.proofs.Following.{follows_on, needed_on}
@@ -32,7 +32,7 @@ use Rattle.event_play.proofs.Lacking.{WasDue, due_on}
 
 -- ---- notes
 
-pub word_notes-append : (t : Tale) (xs ys : List ℕ)
+pub word_notes-append : (t : Replay) (xs ys : List ℕ)
     → word_notes t (xs ++ ys) ≡ word_notes t xs ++ word_notes (after_words t xs) ys
 word_notes-append t [] ys = refl
 word_notes-append t (x ∷ xs) ys =
@@ -41,7 +41,7 @@ word_notes-append t (x ∷ xs) ys =
     ∙ sym (append_assoc one (word_notes (after_word t x) xs) (word_notes (after_words (after_word t x) xs) ys))
 
 -- These are the notes that the GPU returns.
-pub notes_fed : (t : Tale) (words : List ℕ) → word_notes t words ≡ feed_notes t.state.gpu (t.played + 1) words
+pub notes_fed : (t : Replay) (words : List ℕ) → word_notes t words ≡ feed_notes t.state.gpu (t.played + 1) words
 notes_fed t [] = refl
 notes_fed t (word ∷ words) =
     let n = next_number t.played in
@@ -65,16 +65,16 @@ put_on {Value = Value} before mid now ps qs result first then = record {
   failed = failed result then.failed;
 }
   where
-    both : (base : Option (List ℕ)) (all : List Piece) → AreOut base all before.held (before.gathered ++ (ps ++ qs))
-        → AreOut base all mid.held (mid.gathered ++ qs)
+    both : (base : Option (List ℕ)) (all : List Piece) → AreOut base all before.held (before.buffered ++ (ps ++ qs))
+        → AreOut base all mid.held (mid.buffered ++ qs)
     both base all out =
-        let some = out.written ++ (before.gathered ++ ps) in
+        let some = out.written ++ (before.buffered ++ ps) in
         let at = first.out base some (record { written = out.written; are = refl; stands = out.stands }) in
         record {
           written = at.written;
-          are = out.are ∙ ap (λ ps. out.written ++ ps) (sym (append_assoc before.gathered ps qs))
-              ∙ sym (append_assoc out.written (before.gathered ++ ps) qs)
-              ∙ ap (λ ps. ps ++ qs) at.are ∙ append_assoc at.written mid.gathered qs;
+          are = out.are ∙ ap (λ ps. out.written ++ ps) (sym (append_assoc before.buffered ps qs))
+              ∙ sym (append_assoc out.written (before.buffered ++ ps) qs)
+              ∙ ap (λ ps. ps ++ qs) at.are ∙ append_assoc at.written mid.buffered qs;
           stands = at.stands;
         }
 
@@ -82,14 +82,14 @@ put_on {Value = Value} before mid now ps qs result first then = record {
     ok (Ok v) put = record { out = λ base all out. put.out base all (both base all out) }
     ok (Err lacking) put = tt
 
-    failed : (result : Result Value ℕ) → IfErr result (BreaksWriting mid.held now.held (mid.gathered ++ qs))
-        → IfErr result (BreaksWriting before.held now.held (before.gathered ++ (ps ++ qs)))
+    failed : (result : Result Value ℕ) → IfErr result (BreaksWriting mid.held now.held (mid.buffered ++ qs))
+        → IfErr result (BreaksWriting before.held now.held (before.buffered ++ (ps ++ qs)))
     failed (Ok v) breaks = tt
     failed (Err lacking) breaks = record { off = λ base all out. breaks.off base all (both base all out) }
 
 -- none were added
 pub none_put : (at : Holding) → ArePut [] at at
-none_put at = record { out = λ base all out. rw (append-nil at.gathered) at out }
+none_put at = record { out = λ base all out. rw (append-nil at.buffered) at out }
 
 -- If writing breaks off among some pieces, it breaks off among more pieces.
 pub breaks_more : (before now : Option (List ℕ)) (ps qs : List Piece) (lacking : ℕ)
@@ -111,31 +111,31 @@ breaks_more before now ps qs lacking breaks = record {
 
 -- one piece was added, as the call that adds it states
 pub put_piece : {Value : Type 0} (p : Piece) (before now : Holding) (result : Result Value ℕ)
-    → ((base : Option (List ℕ)) (all : List Piece) → AreOut base all before.held before.gathered
-    → OnOk result (AreOut base (all ++ p ∷ []) now.held now.gathered))
-    → ((base : Option (List ℕ)) (all : List Piece) → AreOut base all before.held before.gathered
+    → ((base : Option (List ℕ)) (all : List Piece) → AreOut base all before.held before.buffered
+    → OnOk result (AreOut base (all ++ p ∷ []) now.held now.buffered))
+    → ((base : Option (List ℕ)) (all : List Piece) → AreOut base all before.held before.buffered
     → IfErr result (BreaksOff all base now.held))
     → PutsPieces (p ∷ []) before now result
 put_piece p before now (Ok v) ok failed = record {
   ok = record {
     out = λ base all out.
-        let some = out.written ++ before.gathered in
-        let P : List Piece → Type 0 = λ all. AreOut base all now.held now.gathered in
-        subst P (append_assoc out.written before.gathered (p ∷ []) ∙ sym out.are)
+        let some = out.written ++ before.buffered in
+        let P : List Piece → Type 0 = λ all. AreOut base all now.held now.buffered in
+        subst P (append_assoc out.written before.buffered (p ∷ []) ∙ sym out.are)
         (ok base some (record { written = out.written; are = refl; stands = out.stands }));
   };
   failed = tt;
 }
 put_piece p before now (Err lacking) ok failed = record {
   ok = tt;
-  failed = breaks_more before.held now.held before.gathered (p ∷ []) lacking
+  failed = breaks_more before.held now.held before.buffered (p ∷ []) lacking
       (record { off = λ base all out. failed base all out });
 }
 
 -- ---- words, and the first of those after them
 
 -- the pieces of the first words and of the note of the others are those of all words
-pub pieces_on : (t : Tale) (xs ys all : List ℕ) (given : Option Note) → xs ++ ys ≡ all
+pub pieces_on : (t : Replay) (xs ys all : List ℕ) (given : Option Note) → xs ++ ys ≡ all
     → but_pixels (word_notes (after_words t xs) ys) ≡ but_pixels (option_to_list given)
     → listed_pieces (word_notes t xs) ++ listed_pieces (option_to_list given) ≡ listed_pieces (word_notes t all)
 pieces_on t xs ys all given both gives =
@@ -146,7 +146,7 @@ pieces_on t xs ys all given both gives =
     ∙ ap listed_pieces (sym (word_notes-append t xs ys)) ∙ ap (λ words. listed_pieces (word_notes t words)) both
 
 -- If writing breaks off among the pieces of the first words, it breaks off among those of all.
-pub fails_on : {Value : Type 0} (before now : Holding) (t : Tale) (xs ys all : List ℕ) (lacking : ℕ) → xs ++ ys ≡ all
+pub fails_on : {Value : Type 0} (before now : Holding) (t : Replay) (xs ys all : List ℕ) (lacking : ℕ) → xs ++ ys ≡ all
     → PutsPieces {Value = Value} (listed_pieces (word_notes t xs)) before now (Err lacking)
     → PutsPieces {Value = Value} (listed_pieces (word_notes t all)) before now (Err lacking)
 fails_on before now t xs ys all lacking both fails =
@@ -154,13 +154,13 @@ fails_on before now t xs ys all lacking both fails =
     let is : listed_pieces (word_notes t xs) ++ listed_pieces more ≡ listed_pieces (word_notes t all) =
     sym (listed_pieces-append (word_notes t xs) more) ∙ ap listed_pieces (sym (word_notes-append t xs ys))
     ∙ ap (λ words. listed_pieces (word_notes t words)) both in
-    let P : List Piece → Type 0 = λ ps. BreaksWriting before.held now.held (before.gathered ++ ps) lacking in
+    let P : List Piece → Type 0 = λ ps. BreaksWriting before.held now.held (before.buffered ++ ps) lacking in
     let Q : List Piece → Type 0 = λ ps. BreaksWriting before.held now.held ps lacking in
     record {
       ok = tt;
       failed = subst P is
-          (subst Q (append_assoc before.gathered (listed_pieces (word_notes t xs)) (listed_pieces more))
-          (breaks_more before.held now.held (before.gathered ++ listed_pieces (word_notes t xs)) (listed_pieces more)
+          (subst Q (append_assoc before.buffered (listed_pieces (word_notes t xs)) (listed_pieces more))
+          (breaks_more before.held now.held (before.buffered ++ listed_pieces (word_notes t xs)) (listed_pieces more)
           lacking fails.failed));
     }
 
@@ -185,27 +185,28 @@ unfolding gp0_note
 word_pieces s event word = item_pieces s.parts.regs event (new_item s.words word)
 
 -- Pieces that were added to the buffer count as put.
-put_gathered : (number : ℕ) (bytes : List ℕ) (held : Option (List ℕ)) (gathered parts : List Piece)
+put_buffered : (number : ℕ) (bytes : List ℕ) (held : Option (List ℕ)) (buffered parts : List Piece)
     → ArePieces number bytes parts
-    → IsPut (piece number bytes) (holding held gathered) (holding held (gathered ++ parts))
-put_gathered number bytes held gathered parts are = record {
+    → IsPut (piece number bytes) (holding held buffered) (holding held (buffered ++ parts))
+put_buffered number bytes held buffered parts are = record {
   parts = parts;
   are = are;
   out = λ base pieces out. record {
     written = out.written;
-    are = ap (λ ps. ps ++ parts) out.are ∙ append_assoc out.written gathered parts;
+    are = ap (λ ps. ps ++ parts) out.are ∙ append_assoc out.written buffered parts;
     stands = out.stands;
   };
 }
 
 -- ---- words after what was buffered so far
 
-module _ (script : List ℕ → Script) (first : Tale) (flushed behind further taken : List ℕ) (base held : Option (List ℕ))
+module _ (script : List ℕ → Script) (first : Replay) (flushed after further taken : List ℕ)
+    (base held : Option (List ℕ))
     (begins : (rest : List ℕ) → (script (taken ++ rest)).first ≡ first)
-    (taken_is : taken ≡ (flushed ++ behind) ++ further) where
+    (taken_is : taken ≡ (flushed ++ after) ++ further) where
   -- The events before a word need no byte of the words.
-  word_due : (t : Tale) (events : List Event) (word : ℕ) → Follows first events t
-      → AreNeeded (reads script) events (flushed ++ behind)
+  word_due : (t : Replay) (events : List Event) (word : ℕ) → Follows first events t
+      → AreNeeded (reads script) events (flushed ++ after)
       → WasDue Listing script (events ++ Gp0 word ∷ []) flushed taken (next_number t.played) (lines_of Listing t)
       (flat_map listed (option_to_list (gp0_note t.state.gpu (next_number t.played) word)))
   word_due t events word follows needed = record {
@@ -215,48 +216,48 @@ module _ (script : List ℕ → Script) (first : Tale) (flushed behind further t
     event = Gp0 word;
     later = [];
     are = refl;
-    tale = t;
+    replay = t;
     follows = follows;
     next = after_word t word;
     next_is = word_is t word;
     number_is = refl;
     was_is = refl;
     due_is = flat_map-append listed t.notes (option_to_list (gp0_note t.state.gpu (next_number t.played) word));
-    between = behind;
+    between = after;
     rest = further;
     taken_is = taken_is;
-    needed = needed_on (reads script) events (Gp0 word ∷ []) (flushed ++ behind) needed;
+    needed = needed_on (reads script) events (Gp0 word ∷ []) (flushed ++ after) needed;
   }
 
-  pub words_gathered : (words : List ℕ) (t : Tale) (events : List Event) (gathered : List Piece)
+  pub words_buffered : (words : List ℕ) (t : Replay) (events : List Event) (buffered : List Piece)
       → Follows first events t
-      → AreNeeded (reads script) events (flushed ++ behind)
-      → Gathers (WasDue Listing script events flushed taken) base (lines_of Listing t) held gathered
-      → Gathers (WasDue Listing script (events ++ word_events words) flushed taken) base
-      (lines_of Listing (after_words t words)) held (gathered ++ listed_pieces (word_notes t words))
-  words_gathered [] t events gathered follows needed so_far = rw (append-nil events, append-nil gathered) so_far
-  words_gathered (word ∷ words) t events gathered follows needed so_far =
+      → AreNeeded (reads script) events (flushed ++ after)
+      → Buffers (WasDue Listing script events flushed taken) base (lines_of Listing t) held buffered
+      → Buffers (WasDue Listing script (events ++ word_events words) flushed taken) base
+      (lines_of Listing (after_words t words)) held (buffered ++ listed_pieces (word_notes t words))
+  words_buffered [] t events buffered follows needed so_far = rw (append-nil events, append-nil buffered) so_far
+  words_buffered (word ∷ words) t events buffered follows needed so_far =
       let n = next_number t.played in
       let note = option_to_list (gp0_note t.state.gpu n word) in
       let due = flat_map listed note in
       let ps = listed_pieces note in
       let more = word_notes (after_word t word) words in
-      let one = gathers_on (WasDue Listing script events flushed taken)
-      (WasDue Listing script (events ++ Gp0 word ∷ []) flushed taken) base (lines_of Listing t) held gathered so_far
+      let one = buffers_on (WasDue Listing script events flushed taken)
+      (WasDue Listing script (events ++ Gp0 word ∷ []) flushed taken) base (lines_of Listing t) held buffered so_far
       (due_on Listing script events (Gp0 word ∷ []) flushed taken) n due (word_due t events word follows needed)
-      held (gathered ++ ps)
-      (put_gathered n due held gathered ps (word_pieces t.state.gpu n word)) in
+      held (buffered ++ ps)
+      (put_buffered n due held buffered ps (word_pieces t.state.gpu n word)) in
       let P : List ℕ → Type 0 = λ all.
-      Gathers (WasDue Listing script (events ++ Gp0 word ∷ []) flushed taken) base all held (gathered ++ ps) in
-      let next = words_gathered words (after_word t word) (events ++ Gp0 word ∷ []) (gathered ++ ps)
+      Buffers (WasDue Listing script (events ++ Gp0 word ∷ []) flushed taken) base all held (buffered ++ ps) in
+      let next = words_buffered words (after_word t word) (events ++ Gp0 word ∷ []) (buffered ++ ps)
       (follows_on first t (after_word t word) events (Gp0 word) follows (word_is t word))
-      (needed_on (reads script) events (Gp0 word ∷ []) (flushed ++ behind) needed)
+      (needed_on (reads script) events (Gp0 word ∷ []) (flushed ++ after) needed)
       (subst P (sym (flat_map-append listed t.notes note)) one) in
-      let Q : List Event → List Piece → Type 0 = λ all pieces. Gathers (WasDue Listing script all flushed taken) base
+      let Q : List Event → List Piece → Type 0 = λ all pieces. Buffers (WasDue Listing script all flushed taken) base
       (lines_of Listing (after_words t (word ∷ words))) held pieces in
-      let pieces : (gathered ++ ps) ++ listed_pieces more ≡ gathered ++ listed_pieces (note ++ more) =
-      append_assoc gathered ps (listed_pieces more)
-      ∙ ap (λ ps. gathered ++ ps) (sym (listed_pieces-append note more)) in
+      let pieces : (buffered ++ ps) ++ listed_pieces more ≡ buffered ++ listed_pieces (note ++ more) =
+      append_assoc buffered ps (listed_pieces more)
+      ∙ ap (λ ps. buffered ++ ps) (sym (listed_pieces-append note more)) in
       subst (λ pieces. Q (events ++ word_events (word ∷ words)) pieces) pieces
-      (subst (λ all. Q all ((gathered ++ ps) ++ listed_pieces more))
+      (subst (λ all. Q all ((buffered ++ ps) ++ listed_pieces more))
       (append_assoc events (Gp0 word ∷ []) (word_events words)) next)

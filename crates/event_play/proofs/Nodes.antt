@@ -6,10 +6,10 @@ use Rattle.ot_clear_dma.specs.Ram.{cut, word_at, place_of}
 use Rattle.list_dma.specs.Node.{is_end, next_of, node_of, words_behind, node_words, word_count}
 use Rattle.list_dma.specs.Walk.{chain}
 use Rattle.event_play.specs.Block.{address_in, first_words, block_words}
-use Rattle.event_play.specs.Cursor.{IsNextNode, behind_words, nodes_words, words_from, words_left}
+use Rattle.event_play.specs.Cursor.{IsNextNode, following_words, nodes_words, words_from, words_left}
 use Rattle.event_play.specs.declared.block.Block.{Block}
-use Rattle.event_play.specs.declared.words.Behind.{Behind}
-use Rattle.event_play.specs.declared.words.Behind.TheVariants.{Nodes}
+use Rattle.event_play.specs.declared.words.Following.{Following}
+use Rattle.event_play.specs.declared.words.Following.TheVariants.{Nodes}
 use Rattle.event_play.specs.declared.words.Node.{Node}
 use Rattle.event_play.specs.declared.words.NodeList.{NodeList}
 
@@ -33,39 +33,39 @@ words_split ram block i (suc count) =
     ∙ append_assoc (first_words ram block i) (word ∷ []) rest
 
 -- all words of a block, and those that follow it
-pub left_whole : (ram : List ℕ) (block : Block) (behind : Behind)
-    → words_left ram block 0 behind ≡ block_words ram block ++ behind_words ram behind
-left_whole ram block behind =
+pub left_whole : (ram : List ℕ) (block : Block) (following : Following)
+    → words_left ram block 0 following ≡ block_words ram block ++ following_words ram following
+left_whole ram block following =
     let count : block.n - 0 ≡ block.n = omega arith in
     let end : 0 + block.n ≡ block.n = omega arith in
-    ap (λ words. words ++ behind_words ram behind)
+    ap (λ words. words ++ following_words ram following)
     (ap (words_from ram block 0) count ∙ sym (words_split ram block 0 block.n) ∙ ap (first_words ram block) end)
 
 -- one word of the block, and those left after it
-pub left_goes : (ram : List ℕ) (block : Block) (at : ℕ) (behind : Behind) (word : ℕ) → at < block.n
+pub left_goes : (ram : List ℕ) (block : Block) (at : ℕ) (following : Following) (word : ℕ) → at < block.n
     → word ≡ word_at ram (address_in block at)
-    → words_left ram block at behind ≡ word ∷ words_left ram block (at + 1) behind
-left_goes ram block at behind word below is =
+    → words_left ram block at following ≡ word ∷ words_left ram block (at + 1) following
+left_goes ram block at following word below is =
     let more : block.n - at ≡ suc (block.n - (at + 1)) = omega (arith, below) in rw (more, is) refl
 
 -- The block has no word left, and the next node with words follows.
 pub left_enters : (ram : List ℕ) (block : Block) (at : ℕ) (list : NodeList) (node : Node) (word : ℕ) → block.n ≤ at
     → IsNextNode ram list node → word ≡ word_at ram (address_in node.words 0)
-    → words_left ram block at (Nodes list) ≡ word ∷ words_left ram node.words 1 node.behind
+    → words_left ram block at (Nodes list) ≡ word ∷ words_left ram node.words 1 node.following
 left_enters ram block at list node word none next is =
     let end : block.n - at ≡ 0 = omega (arith, none) in
     ap (λ count. words_from ram block at count ++ nodes_words ram list) end
-    ∙ next.words ∙ sym (left_whole ram node.words node.behind)
-    ∙ left_goes ram node.words 0 node.behind word next.some is
+    ∙ next.words ∙ sym (left_whole ram node.words node.following)
+    ∙ left_goes ram node.words 0 node.following word next.some is
 
 -- ---- nodes
 
-behind-next : (ram : List ℕ) (address n : ℕ) → words_behind ram address
+after-next : (ram : List ℕ) (address n : ℕ) → words_behind ram address
     (suc n) ≡ words_behind ram address n ++ word_at ram (address + 4 * n + 4) ∷ []
-behind-next ram address zero = let e : address + 4 * 0 + 4 ≡ address + 4 = omega arith in rw e refl
-behind-next ram address (suc n) =
+after-next ram address zero = let e : address + 4 * 0 + 4 ≡ address + 4 = omega arith in rw e refl
+after-next ram address (suc n) =
     let e : address + 4 * suc n + 4 ≡ address + 4 + 4 * n + 4 = omega arith in
-    rw e (ap (λ words. word_at ram (address + 4) ∷ words) (behind-next ram (address + 4) n))
+    rw e (ap (λ words. word_at ram (address + 4) ∷ words) (after-next ram (address + 4) n))
 
 -- `cut` does not change which word of memory an address names.
 word_cut : (ram : List ℕ) (address : ℕ) → word_at ram (cut address) ≡ word_at ram address
@@ -81,7 +81,7 @@ node_first ram node n (suc i) =
     ∙ ap (word_at ram) e in
     ap (λ words. words ++ word_at ram (cut (node + 4 + 4 * i)) ∷ []) (node_first ram node n i)
     ∙ ap (λ word. words_behind ram node i ++ word ∷ []) here
-    ∙ sym (behind-next ram node i)
+    ∙ sym (after-next ram node i)
 
 -- the words of a node are a block
 pub node_block : (ram : List ℕ) (node n : ℕ) → n ≡ word_count ram node

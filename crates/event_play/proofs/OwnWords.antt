@@ -4,22 +4,22 @@ use Rattle.gpu_core.specs.Kept.{Kept}
 use Rattle.gpu_taps.specs.Tally.{Reading}
 use Rattle.event_play.specs.OwnWords.{Tells}
 use Rattle.event_play.specs.PlayedWords.{IsTold, after_word, after_words}
-use Rattle.event_play.specs.Replay.{Tale, from_state}
+use Rattle.event_play.specs.Replay.{Replay, from_state}
 use Rattle.event_play.specs.RigState.{RigState, Stands}
 use Rattle.event_play.specs.Step.{Machine}
 use Rattle.event_play.specs.Streams.{Outlets, without_sink}
 
-same_ram : (t : Tale) (words : List ℕ) → (after_words t words).state.ram ≡ t.state.ram
+same_ram : (t : Replay) (words : List ℕ) → (after_words t words).state.ram ≡ t.state.ram
 same_ram t [] = refl
 same_ram t (word ∷ words) = same_ram (after_word t word) words
 
-same_running : (t : Tale) (words : List ℕ) → (after_words t words).state.running ≡ t.state.running
+same_running : (t : Replay) (words : List ℕ) → (after_words t words).state.running ≡ t.state.running
 same_running t [] = refl
 same_running t (word ∷ words) = same_running (after_word t word) words
 
 pub words_tell : (rig : RigState) (gpu : Kept) (played : ℕ) (words : List ℕ) (heard heard_now : List Reading)
     (steps steps_now : ℕ)
-    → ((t : Tale) (first : Outlets) → IsTold t first (without_sink heard steps) rig.gpu rig.played
+    → ((t : Replay) (first : Outlets) → IsTold t first (without_sink heard steps) rig.gpu rig.played
     → IsTold (after_words t words) first (without_sink heard_now steps_now) gpu played)
     → (s : Machine) → Stands rig s
     → Tells (after_words (from_state s rig.played) words) (without_sink heard steps)

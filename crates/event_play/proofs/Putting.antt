@@ -8,7 +8,7 @@ use Rattle.gathered_out.specs.Puts.{BreaksPut, Holding, IsPut, Puts, SinkState, 
 use Rattle.gathered_out.proofs.Pieces.{bytes_append}
 use Rattle.gathered_out.proofs.Puts.{put_on}
 use Rattle.event_play.specs.Frames.{Frame}
-use Rattle.event_play.specs.Lines.{IsGathered, MayGather, WritesBehind, lines_behind}
+use Rattle.event_play.specs.Lines.{IsBuffered, MayBuffer, WritesAfter, lines_after}
 use Rattle.event_play.specs.declared.ending.Mode.{Mode}
 use Rattle.event_play.specs.declared.ending.Mode.TheVariants.{Vram, Shot, Report, Frames, Sums, Pixel}
 use Rattle.event_play.specs.declared.ending.Mode.TheVariants.{List as Listing, Play as Words}
@@ -30,10 +30,10 @@ breaks_at n m xs ys before now lacking number same put = rw (← number, ← sam
 
 -- nothing was added
 pub puts_none : {Value : Type 0} (number : ℕ) (bytes : List ℕ) (before now : SinkState) (v : Value) → bytes ≡ []
-    → now.held ≡ before.held → now.faults ≡ before.faults → now.gathered ≡ before.gathered
+    → now.held ≡ before.held → now.faults ≡ before.faults → now.buffered ≡ before.buffered
     → Puts {Value = Value} (piece number bytes) before now (Ok v)
-puts_none number bytes before now v none held faults gathered = record {
-  ok = unput number bytes before.held now.held before.gathered now.gathered none held gathered;
+puts_none number bytes before now v none held faults buffered = record {
+  ok = unput number bytes before.held now.held before.buffered now.buffered none held buffered;
   failed = tt;
   cause = tt;
   faults = omega (arith, faults);
@@ -41,8 +41,8 @@ puts_none number bytes before now v none held faults gathered = record {
   where
     unput : (number : ℕ) (bytes : List ℕ) (before now : Option (List ℕ)) (old new : List Piece) → bytes ≡ []
         → now ≡ before → new ≡ old → IsPut (piece number bytes) (holding before old) (holding now new)
-    unput number bytes before now old new none held gathered =
-        rw (none, held, gathered) (record {
+    unput number bytes before now old new none held buffered =
+        rw (none, held, buffered) (record {
           parts = [];
           are = record { numbers = tt; bytes_are = refl };
           out = λ base pieces out. rw (append-nil pieces) out;
@@ -51,27 +51,27 @@ puts_none number bytes before now v none held faults gathered = record {
 -- ---- the output after an event
 
 -- A mode that buffers lines has no output after an event.
-behind_none : (mode : Mode) (shown : List ℕ) (frames : List Frame) → IsGathered mode
-    → lines_behind mode shown frames ≡ []
-behind_none Listing shown frames is = refl
-behind_none (Pixel cell) shown frames is = refl
-behind_none Words shown frames is = absurd is
-behind_none Vram shown frames is = absurd is
-behind_none Shot shown frames is = absurd is
-behind_none Report shown frames is = absurd is
-behind_none (Frames at) shown frames is = absurd is
-behind_none (Sums at) shown frames is = absurd is
+after_none : (mode : Mode) (shown : List ℕ) (frames : List Frame) → IsBuffered mode
+    → lines_after mode shown frames ≡ []
+after_none Listing shown frames is = refl
+after_none (Pixel cell) shown frames is = refl
+after_none Words shown frames is = absurd is
+after_none Vram shown frames is = absurd is
+after_none Shot shown frames is = absurd is
+after_none Report shown frames is = absurd is
+after_none (Frames at) shown frames is = absurd is
+after_none (Sums at) shown frames is = absurd is
 
 -- No mode has both output after an event and buffered lines.
-pub never_both : (mode : Mode) → WritesBehind mode → IsGathered mode → ⊥
-never_both Listing behind is = behind
-never_both (Pixel cell) behind is = behind
-never_both Words behind is = is
-never_both Vram behind is = is
-never_both Shot behind is = is
-never_both Report behind is = is
-never_both (Frames at) behind is = is
-never_both (Sums at) behind is = is
+pub never_both : (mode : Mode) → WritesAfter mode → IsBuffered mode → ⊥
+never_both Listing after is = after
+never_both (Pixel cell) after is = after
+never_both Words after is = is
+never_both Vram after is = is
+never_both Shot after is = is
+never_both Report after is = is
+never_both (Frames at) after is = is
+never_both (Sums at) after is = is
 
 -- bytes that are written with an empty buffer
 pub put_through : (number : ℕ) (bytes : List ℕ) (before now : Option (List ℕ)) → now ≡ appended before bytes
@@ -92,9 +92,9 @@ put_through number bytes before now wrote = record {
       };
 }
 
-put_unchanged : (number : ℕ) (bytes : List ℕ) (before now : Option (List ℕ)) (gathered : List Piece) → bytes ≡ []
-    → now ≡ appended before bytes → IsPut (piece number bytes) (holding before gathered) (holding now gathered)
-put_unchanged number bytes before now gathered none wrote = record {
+put_unchanged : (number : ℕ) (bytes : List ℕ) (before now : Option (List ℕ)) (buffered : List Piece) → bytes ≡ []
+    → now ≡ appended before bytes → IsPut (piece number bytes) (holding before buffered) (holding now buffered)
+put_unchanged number bytes before now buffered none wrote = record {
   parts = [];
   are = record { numbers = tt; bytes_are = sym none };
   out = λ base pieces out.
@@ -103,13 +103,13 @@ put_unchanged number bytes before now gathered none wrote = record {
 }
 
 -- the output after an event was written
-pub put_behind : (mode : Mode) (number : ℕ) (shown : List ℕ) (frames : List Frame) (before now : Option (List ℕ))
-    (gathered : List Piece) → MayGather mode gathered → now ≡ appended before (lines_behind mode shown frames)
-    → IsPut (piece number (lines_behind mode shown frames)) (holding before gathered) (holding now gathered)
-put_behind mode number shown frames before now gathered (inl is) wrote =
-    put_unchanged number (lines_behind mode shown frames) before now gathered (behind_none mode shown frames is) wrote
-put_behind mode number shown frames before now gathered (inr none) wrote =
-    rw none (put_through number (lines_behind mode shown frames) before now wrote)
+pub put_after : (mode : Mode) (number : ℕ) (shown : List ℕ) (frames : List Frame) (before now : Option (List ℕ))
+    (buffered : List Piece) → MayBuffer mode buffered → now ≡ appended before (lines_after mode shown frames)
+    → IsPut (piece number (lines_after mode shown frames)) (holding before buffered) (holding now buffered)
+put_after mode number shown frames before now buffered (inl is) wrote =
+    put_unchanged number (lines_after mode shown frames) before now buffered (after_none mode shown frames is) wrote
+put_after mode number shown frames before now buffered (inr none) wrote =
+    rw none (put_through number (lines_after mode shown frames) before now wrote)
 
 -- bytes were added, and then others
 pub put_both : (number : ℕ) (xs ys : List ℕ) (before mid now : Option (List ℕ)) (old between new : List Piece)

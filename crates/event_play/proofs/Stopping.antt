@@ -6,19 +6,19 @@ use Rattle.dev_io.specs.Device.{appended, AppendsPart}
 use Rattle.dev_io.proofs.Appended.{appended-appended}
 use Rattle.gathered_out.specs.Pieces.{Piece}
 use Rattle.gathered_out.specs.Puts.{BreaksWriting, IsWritten}
-use Rattle.gathered_out.proofs.Gathers.{gathers_none, gathers_off}
-use Rattle.gathered_out.proofs.Gathers.{gathers_written}
+use Rattle.gathered_out.proofs.Buffers.{buffers_none, buffers_off}
+use Rattle.gathered_out.proofs.Buffers.{buffers_written}
 use Rattle.gpu_capture.specs.Reader.{capture_from}
 use Rattle.gpu_capture.specs.declared.event.Event.{Event}
 use Rattle.gpu_capture.specs.declared.event.Stop.{Stop}
 use Rattle.gpu_capture.specs.declared.event.Stop.TheVariants.{End, NotCapture, Truncated, BadRecord, TooLong, ReadFault}
 use Rattle.gpu_capture.specs.declared.progress.Progress.{Progress}
-use Rattle.event_play.specs.Ends.{EndsAt, EndsReading, finale}
+use Rattle.event_play.specs.Ends.{EndsAt, EndsReading, final_output}
 use Rattle.event_play.specs.Ends.{WritesEnd, WritesEndPart, IsNotEnd}
-use Rattle.event_play.specs.Out.{lines_of, tale_cost, final_bytes, final_cost, ending_under, lacks_picture}
+use Rattle.event_play.specs.Out.{lines_of, replay_cost, final_bytes, final_cost, ending_under, lacks_picture}
 use Rattle.event_play.specs.Out.{out_cost}
 use Rattle.event_play.specs.Playing.{SaysEnding, EndsPlay, IsLast, plays, whole}
-use Rattle.event_play.specs.Replay.{Tale, Script, next_number}
+use Rattle.event_play.specs.Replay.{Replay, Script, next_number}
 use Rattle.event_play.specs.RigState.{RigState, StandsFor}
 use Rattle.event_play.specs.Streams.{Outlets, Streams}
 use Rattle.event_play.specs.Told.{told_notes}
@@ -30,27 +30,27 @@ use Rattle.event_play.proofs.BoxCosts.{AreSmall, within_boxes}
 use Rattle.event_play.proofs.Following.{ReadsAll, leads_all, reads_all}
 use Rattle.event_play.proofs.Grows.{cost_within}
 use Rattle.event_play.proofs.Lacking.{WasDue, lacks_lines}
-use Rattle.event_play.proofs.Reaching.{beside, gathers_of, held_all, spent_on}
-use Rattle.event_play.specs.Course.{at_end, course, tales}
+use Rattle.event_play.proofs.Reaching.{beside, buffers_of, held_all, spent_on}
+use Rattle.event_play.specs.PlayInput.{at_end, play_input, replay_pair}
 
 -- ---- a pause
 
 -- the flush at a pause failed
-pub pause_ends : (mode : Mode) (script : List ℕ → Script) (before now : Streams) (gathered : List Piece) (since : ℕ)
+pub pause_ends : (mode : Mode) (script : List ℕ → Script) (before now : Streams) (buffered : List Piece) (since : ℕ)
     (rig : RigState) (p : Progress) (held : Option (List ℕ)) (lacking : ℕ)
-    → Reaches mode script before now gathered rig (GoesOn mode script since p) → AreSmall (plays script)
-    → BreaksWriting now.held held gathered lacking
+    → Reaches mode script before now buffered rig (GoesOn mode script since p) → AreSmall (plays script)
+    → BreaksWriting now.held held buffered lacking
     → EndsPlay mode script before (at_end (record now { held = held }) rig) (WriteFailed lacking)
-pause_ends mode script before now gathered since rig p held lacking reached is_small breaks =
-    let t = reached.tale in
+pause_ends mode script before now buffered since rig p held lacking reached is_small breaks =
+    let t = reached.replay in
     let read = reached.says.read in
     let all = reads_all script p t reached.taken reached.events read in
-    let is = gathers_of mode now.held held gathered lacking reached.free breaks in
+    let is = buffers_of mode now.held held buffered lacking reached.free breaks in
     let few = reached.says.few is in
     let long = ap length reached.taken_is in
-    let both = length-append reached.flushed reached.behind in
+    let both = length-append reached.flushed reached.after in
     let due = WasDue mode script reached.events reached.flushed reached.taken in
-    let off = gathers_off due before.held (lines_of mode t) now.held held gathered lacking reached.gathers breaks in
+    let off = buffers_off due before.held (lines_of mode t) now.held held buffered lacking reached.buffers breaks in
     let cost = λ (rest : List ℕ).
     cost_within mode t (plays script (reached.taken ++ rest)) (capture_from p rest) before.steps now.steps
     (reached.says.plays_on rest) reached.cost in
@@ -58,7 +58,7 @@ pause_ends mode script before now gathered since rig p held lacking reached is_s
       taken = reached.taken;
       bytes = reached.bytes;
       needed = reached.needed;
-      tale = off.is.tale;
+      replay = off.is.replay;
       last = t;
       says = lacks_lines mode script before (record now { held = held }) all.first t all.version reached.events
           reached.flushed reached.taken lacking off is all.begins all.says
@@ -74,15 +74,15 @@ pause_ends mode script before now gathered since rig p held lacking reached is_s
 -- ---- a stop of the reader
 
 -- the number of the next event, by the rig's count
-number_of : (rig : RigState) (t : Tale) → StandsFor rig t → next_number rig.played ≡ next_number t.played
+number_of : (rig : RigState) (t : Replay) → StandsFor rig t → next_number rig.played ≡ next_number t.played
 number_of rig t stands = ap next_number (sym stands.played)
 
 -- how a whole replay ends in a mode
-shown_ends : (mode : Mode) (t : Tale) → lacks_picture mode t.state.gpu.parts.regs ≡ false
+shown_ends : (mode : Mode) (t : Replay) → lacks_picture mode t.state.gpu.parts.regs ≡ false
     → ending_under mode (whole t []) ≡ Done
 shown_ends mode t shows = rw shows refl
 
-lacking_ends : (mode : Mode) (t : Tale) → lacks_picture mode t.state.gpu.parts.regs ≡ true
+lacking_ends : (mode : Mode) (t : Replay) → lacks_picture mode t.state.gpu.parts.regs ≡ true
     → ending_under mode (whole t []) ≡ NoPicture (next_number t.played)
 lacking_ends mode t lacks = rw lacks refl
 
@@ -92,22 +92,23 @@ module _ (mode : Mode) (script : List ℕ → Script) (before : Streams) (left :
     (is_small : AreSmall (plays script))
     (same : now.heard ≡ mid.heard) where
   -- all output so far was written
-  pub stood : mid.held ≡ appended before.held (lines_of mode reached.tale)
-  stood = held_all mode script reached.events reached.flushed reached.taken before.held (lines_of mode reached.tale)
-      mid.held [] refl reached.gathers
+  pub stood : mid.held ≡ appended before.held (lines_of mode reached.replay)
+  stood = held_all mode script reached.events reached.flushed reached.taken before.held (lines_of mode reached.replay)
+      mid.held [] refl reached.buffers
 
   -- an ending after the last event, from what it says and the store steps of the output
-  ends_behind : (ending : Ending)
-      → SaysEnding (course mode script reached.taken) (tales reached.tale reached.tale) before (beside left now) ending
-      → IsLast reached.tale reached.tale ending
+  ends_after : (ending : Ending)
+      → SaysEnding (play_input mode script reached.taken) (replay_pair reached.replay reached.replay) before
+      (beside left now) ending
+      → IsLast reached.replay reached.replay ending
       → ((rest : List ℕ) → now.steps ≤ before.steps + out_cost mode (plays script (reached.taken ++ rest)))
       → EndsPlay mode script before (at_end (beside left now) rig) ending
-  ends_behind ending says is_last cost = record {
+  ends_after ending says is_last cost = record {
     taken = reached.taken;
     bytes = reached.bytes;
     needed = reached.needed;
-    tale = reached.tale;
-    last = reached.tale;
+    replay = reached.replay;
+    last = reached.replay;
     says = says;
     is_last = is_last;
     stands = reached.stands;
@@ -128,23 +129,23 @@ module _ (mode : Mode) (script : List ℕ → Script) (before : Streams) (left :
     (reached : Awaits mode script before (beside left mid) [] since rig p (Err End))
     (is_small : AreSmall (plays script))
     (same : now.heard ≡ mid.heard) where
-  end_costs : lacks_picture mode reached.tale.state.gpu.parts.regs ≡ false
-      → now.steps ≤ mid.steps + final_cost mode reached.tale.state.gpu
+  end_costs : lacks_picture mode reached.replay.state.gpu.parts.regs ≡ false
+      → now.steps ≤ mid.steps + final_cost mode reached.replay.state.gpu
       → (rest : List ℕ) → now.steps ≤ before.steps + out_cost mode (plays script (reached.taken ++ rest))
   end_costs shows spent rest =
       rw (reached.says.says rest, shows)
-      (spent_on before.steps mid.steps now.steps (tale_cost mode reached.tale)
-      (final_cost mode reached.tale.state.gpu) reached.cost spent)
+      (spent_on before.steps mid.steps now.steps (replay_cost mode reached.replay)
+      (final_cost mode reached.replay.state.gpu) reached.cost spent)
 
-  done_ends : WritesEnd (finale mode reached.tale.state.gpu (next_number rig.played)) mid now
+  done_ends : WritesEnd (final_output mode reached.replay.state.gpu (next_number rig.played)) mid now
       → EndsPlay mode script before (at_end (beside left now) rig) Done
   done_ends wrote =
-      let t = reached.tale in
-      let Q : ℕ → Type 0 = λ number. WritesEnd (finale mode t.state.gpu number) mid now in
+      let t = reached.replay in
+      let Q : ℕ → Type 0 = λ number. WritesEnd (final_output mode t.state.gpu number) mid now in
       let writes = subst Q (number_of rig t reached.stands) wrote in
       let due = final_bytes mode mid.heard (next_number t.played) t.state.gpu in
       let heard : mid.heard ≡ told_notes t.notes before.heard = reached.heard in
-      ends_behind mode script before left mid now since rig p End reached is_small same Done (
+      ends_after mode script before left mid now since rig p End reached is_small same Done (
         reached.says.says,
         shown_ends mode t writes.shows,
         writes.held
@@ -156,18 +157,18 @@ module _ (mode : Mode) (script : List ℕ → Script) (before : Streams) (left :
       refl (end_costs writes.shows writes.cost)
 
   finals_end : (number : ℕ) → number ≡ next_number rig.played
-      → WritesEndPart (finale mode reached.tale.state.gpu (next_number rig.played)) mid now
+      → WritesEndPart (final_output mode reached.replay.state.gpu (next_number rig.played)) mid now
       → EndsPlay mode script before (at_end (beside left now) rig) (WriteFailed number)
   finals_end number at wrote =
-      let t = reached.tale in
-      let Q : ℕ → Type 0 = λ number. WritesEndPart (finale mode t.state.gpu number) mid now in
+      let t = reached.replay in
+      let Q : ℕ → Type 0 = λ number. WritesEndPart (final_output mode t.state.gpu number) mid now in
       let writes = subst Q (number_of rig t reached.stands) wrote in
       let due = final_bytes mode mid.heard (next_number t.played) t.state.gpu in
-      ends_behind mode script before left mid now since rig p End reached is_small same (WriteFailed number)
+      ends_after mode script before left mid now since rig p End reached is_small same (WriteFailed number)
       (record {
         number_is = at ∙ number_of rig t reached.stands;
         start = t;
-        place = inr (inr (record {
+        origin = inr (inr (record {
           comes = reached.says.says;
           ends = shown_ends mode t writes.shows;
           start_is = refl;
@@ -186,13 +187,13 @@ module _ (mode : Mode) (script : List ℕ → Script) (before : Streams) (left :
       tt (end_costs writes.shows writes.cost)
 
   lacks_end : (number : ℕ) → number ≡ next_number rig.played
-      → lacks_picture mode reached.tale.state.gpu.parts.regs ≡ true → now ≡ mid
+      → lacks_picture mode reached.replay.state.gpu.parts.regs ≡ true → now ≡ mid
       → EndsPlay mode script before (at_end (beside left now) rig) (NoPicture number)
   lacks_end number at lacks unchanged =
-      let t = reached.tale in
+      let t = reached.replay in
       let held : now.held ≡ mid.held = ap (λ (at : Outlets). at.held) unchanged in
       let steps : now.steps ≡ mid.steps = ap (λ (at : Outlets). at.steps) unchanged in
-      ends_behind mode script before left mid now since rig p End reached is_small same (NoPicture number) (
+      ends_after mode script before left mid now since rig p End reached is_small same (NoPicture number) (
         reached.says.says,
         lacking_ends mode t lacks ∙ ap NoPicture (sym (at ∙ number_of rig t reached.stands)),
         held ∙ stood mode script before left mid now since rig p End reached is_small same,
@@ -201,9 +202,10 @@ module _ (mode : Mode) (script : List ℕ → Script) (before : Streams) (left :
 
 module _ (mode : Mode) (script : List ℕ → Script) (before : Streams) (left : Option (List ℕ)) (mid now : Outlets)
     (since : ℕ) (rig : RigState) (p : Progress) where
-  stopped_says : (stop : Stop) (t : Tale) (taken : List ℕ) → SaysNext script p left (Err stop) t taken → IsNotEnd stop
+  stopped_says : (stop : Stop) (t : Replay) (taken : List ℕ) → SaysNext script p left (Err stop) t taken → IsNotEnd stop
       → now.held ≡ appended before.held (lines_of mode t)
-      → SaysEnding (course mode script taken) (tales t t) before (beside left now) (Stopped (next_number t.played) stop)
+      → SaysEnding (play_input mode script taken) (replay_pair t t) before (beside left now)
+      (Stopped (next_number t.played) stop)
   stopped_says End t taken says not held = absurd not
   stopped_says (ReadFault byte) t taken says not held = (says, held)
   stopped_says (Truncated byte) t taken says not held = (says.0, held, says.1)
@@ -213,35 +215,36 @@ module _ (mode : Mode) (script : List ℕ → Script) (before : Streams) (left :
 
   stop_ends : (stop : Stop) (reached : Awaits mode script before (beside left mid) [] since rig p (Err stop))
       → AreSmall (plays script) → now.heard ≡ mid.heard
-      → (ending : Ending) → EndsAt (finale mode reached.tale.state.gpu (next_number rig.played)) stop mid now ending
+      → (ending : Ending) → EndsAt
+      (final_output mode reached.replay.state.gpu (next_number rig.played)) stop mid now ending
       → EndsPlay mode script before (at_end (beside left now) rig) ending
   stop_ends stop reached is_small same Done (is, writes) =
       let P : Stop → Type 0 = λ stop. (reached : Awaits mode script before (beside left mid) [] since rig p (Err stop))
-      → WritesEnd (finale mode reached.tale.state.gpu (next_number rig.played)) mid now
+      → WritesEnd (final_output mode reached.replay.state.gpu (next_number rig.played)) mid now
       → EndsPlay mode script before (at_end (beside left now) rig) Done in
       subst P (sym is) (λ reached writes. done_ends mode script before left mid now since rig p reached is_small same
       writes) reached writes
   stop_ends stop reached is_small same (WriteFailed number) (is, at, writes) =
       let P : Stop → Type 0 = λ stop. (reached : Awaits mode script before (beside left mid) [] since rig p (Err stop))
-      → WritesEndPart (finale mode reached.tale.state.gpu (next_number rig.played)) mid now
+      → WritesEndPart (final_output mode reached.replay.state.gpu (next_number rig.played)) mid now
       → EndsPlay mode script before (at_end (beside left now) rig) (WriteFailed number) in
       subst P (sym is) (λ reached writes. finals_end mode script before left mid now since rig p reached is_small same
       number at writes) reached writes
   stop_ends stop reached is_small same (NoPicture number) (is, at, lacks, unchanged) =
       let P : Stop → Type 0 = λ stop. (reached : Awaits mode script before (beside left mid) [] since rig p (Err stop))
-      → lacks_picture mode reached.tale.state.gpu.parts.regs ≡ true
+      → lacks_picture mode reached.replay.state.gpu.parts.regs ≡ true
       → EndsPlay mode script before (at_end (beside left now) rig) (NoPicture number) in
       subst P (sym is) (λ reached lacks. lacks_end mode script before left mid now since rig p reached is_small same
       number at lacks unchanged) reached lacks
   stop_ends stop reached is_small same (Stopped number told) (at, is, not, unchanged) =
-      let t = reached.tale in
+      let t = reached.replay in
       let Q : Ending → Type 0 = λ ending. EndsPlay mode script before (at_end (beside left now) rig) ending in
       let e : Stopped (next_number t.played) stop ≡ Stopped number told =
       ap (λ n. Stopped n stop) (sym (at ∙ number_of rig t reached.stands)) ∙ ap (Stopped number) (sym is) in
       let held : now.held ≡ mid.held = ap (λ (at : Outlets). at.held) unchanged in
       let steps : now.steps ≡ mid.steps = ap (λ (at : Outlets). at.steps) unchanged in
       subst Q e
-      (ends_behind mode script before left mid now since rig p stop reached is_small same
+      (ends_after mode script before left mid now since rig p stop reached is_small same
       (Stopped (next_number t.played) stop)
       (stopped_says stop t reached.taken reached.says.says not
       (held ∙ stood mode script before left mid now since rig p stop reached is_small same)) refl
@@ -253,8 +256,8 @@ module _ (mode : Mode) (script : List ℕ → Script) (before : Streams) (left :
 -- the buffer was flushed
 all_written : (mode : Mode) (script : List ℕ → Script) (before : Streams) (left : Option (List ℕ)) (was mid : Outlets)
     (since : ℕ) (rig : RigState) (p : Progress) (stop : Stop)
-    → Awaits mode script before (beside left was) was.gathered since rig p (Err stop)
-    → IsWritten was.held mid.held was.gathered → mid.heard ≡ was.heard → mid.steps ≡ was.steps
+    → Awaits mode script before (beside left was) was.buffered since rig p (Err stop)
+    → IsWritten was.held mid.held was.buffered → mid.heard ≡ was.heard → mid.steps ≡ was.steps
     → Awaits mode script before (beside left mid) [] since rig p (Err stop)
 all_written mode script before left was mid since rig p stop reached written heard steps =
     let due = WasDue mode script reached.events reached.flushed reached.taken in
@@ -263,14 +266,14 @@ all_written mode script before left was mid since rig p stop reached written hea
       bytes = reached.bytes;
       needed = reached.needed;
       events = reached.events;
-      tale = reached.tale;
+      replay = reached.replay;
       flushed = reached.flushed;
-      behind = reached.behind;
+      after = reached.after;
       taken_is = reached.taken_is;
       says = reached.says;
       stands = reached.stands;
-      gathers = gathers_none due before.held (lines_of mode reached.tale) mid.held
-          (gathers_written due before.held (lines_of mode reached.tale) was.held mid.held was.gathered reached.gathers
+      buffers = buffers_none due before.held (lines_of mode reached.replay) mid.held
+          (buffers_written due before.held (lines_of mode reached.replay) was.held mid.held was.buffered reached.buffers
           written);
       free = inr refl;
       heard = heard ∙ reached.heard;
@@ -283,21 +286,21 @@ no_event events (e ∷ earlier) later event none are = cc
 
 module _ (mode : Mode) (script : List ℕ → Script) (before : Streams) (left : Option (List ℕ)) (mid now : Outlets)
     (since : ℕ) (rig : RigState) (p : Progress) (stop : Stop)
-    (reached : Awaits mode script before (beside left mid) mid.gathered since rig p (Err stop))
+    (reached : Awaits mode script before (beside left mid) mid.buffered since rig p (Err stop))
     (is_small : AreSmall (plays script)) where
   -- the flush failed
-  broken_ends : (lacking : ℕ) → BreaksWriting mid.held now.held mid.gathered lacking → now.heard ≡ mid.heard
+  broken_ends : (lacking : ℕ) → BreaksWriting mid.held now.held mid.buffered lacking → now.heard ≡ mid.heard
       → now.steps ≡ mid.steps
-      → ReadsAll script reached.tale reached.taken reached.events
+      → ReadsAll script reached.replay reached.taken reached.events
       → EndsPlay mode script before (at_end (beside left now) rig) (WriteFailed lacking)
   broken_ends lacking breaks heard steps all =
-      let t = reached.tale in
-      let is = gathers_of mode mid.held now.held mid.gathered lacking reached.free breaks in
+      let t = reached.replay in
+      let is = buffers_of mode mid.held now.held mid.buffered lacking reached.free breaks in
       let few = reached.says.few is in
       let long = ap length reached.taken_is in
-      let both = length-append reached.flushed reached.behind in
+      let both = length-append reached.flushed reached.after in
       let due = WasDue mode script reached.events reached.flushed reached.taken in
-      let off = gathers_off due before.held (lines_of mode t) mid.held now.held mid.gathered lacking reached.gathers
+      let off = buffers_off due before.held (lines_of mode t) mid.held now.held mid.buffered lacking reached.buffers
       breaks in
       let cost : (rest : List ℕ) → now.steps ≤ before.steps + out_cost mode (plays script (reached.taken ++ rest)) =
       λ rest. let grows = reached.says.costs rest in let c = reached.cost in omega (arith, c, grows, steps) in
@@ -305,7 +308,7 @@ module _ (mode : Mode) (script : List ℕ → Script) (before : Streams) (left :
         taken = reached.taken;
         bytes = reached.bytes;
         needed = reached.needed;
-        tale = off.is.tale;
+        replay = off.is.replay;
         last = t;
         says = lacks_lines mode script before (beside left now) all.first t all.version reached.events
             reached.flushed reached.taken lacking off is all.begins all.says
@@ -319,7 +322,7 @@ module _ (mode : Mode) (script : List ℕ → Script) (before : Streams) (left :
       }
 
   pub reading_ends : now.heard ≡ mid.heard → (ending : Ending)
-      → EndsReading (finale mode reached.tale.state.gpu (next_number rig.played)) stop mid now ending
+      → EndsReading (final_output mode reached.replay.state.gpu (next_number rig.played)) stop mid now ending
       → EndsPlay mode script before (at_end (beside left now) rig) ending
   unfolding all_written
   reading_ends same ending (inl ends) =
@@ -327,8 +330,8 @@ module _ (mode : Mode) (script : List ℕ → Script) (before : Streams) (left :
       stop_ends mode script before left ends.0 now since rig p stop written is_small (same ∙ sym ends.2) ending ends.4
   reading_ends same ending (inr broke) =
       let due = WasDue mode script reached.events reached.flushed reached.taken in
-      let off = gathers_off due before.held (lines_of mode reached.tale) mid.held now.held mid.gathered broke.0
-      reached.gathers broke.2 in
+      let off = buffers_off due before.held (lines_of mode reached.replay) mid.held now.held mid.buffered broke.0
+      reached.buffers broke.2 in
       rw broke.1
       (elim reached.says.read [
         | inl none ↦ absurd (no_event reached.events off.is.earlier off.is.later off.is.event none off.is.are)

@@ -21,12 +21,12 @@ use Rattle.event_play.specs.Block.{address_in, first_words, block_words}
 use Rattle.event_play.specs.Fed.{fed}
 use Rattle.event_play.specs.Step.{Machine, event_step, done, stepped}
 use Rattle.event_play.specs.Turns.{then_after, after_events, writes_of, remaining, IsApart, AreApart, turned}
-use Rattle.event_play.specs.Turns.{MovesFromRam, first_addresses, node_addresses, addresses_behind}
-use Rattle.event_play.specs.Work.{start_work, begin_work, turn_work, words_left, list_left}
+use Rattle.event_play.specs.Turns.{MovesFromRam, first_addresses, node_addresses, addresses_after}
+use Rattle.event_play.specs.Operation.{start_operation, begin_operation, turn_operation, words_left, list_left}
 use Rattle.event_play.specs.declared.block.Block.{Block}
 use Rattle.event_play.specs.declared.fault.EventFault.{EventFault}
-use Rattle.event_play.specs.declared.work.Work.{Work}
-use Rattle.event_play.specs.declared.work.Work.TheVariants as work
+use Rattle.event_play.specs.declared.operation.Operation.{Operation}
+use Rattle.event_play.specs.declared.operation.Operation.TheVariants as operation
 use Rattle.event_play.proofs.Feeds.{fed-append}
 use Rattle.event_play.proofs.Nodes.{chain_ends, chain_goes}
 
@@ -227,18 +227,18 @@ module _ (ram : List ℕ) (address word : ℕ) where
   -- A word at another address stays.
   word_stays : (other : ℕ) → cut other ≢ cut address → word_at (set ram address word) other ≡ word_at ram other
   word_stays other apart =
-      let ne : place_of other ≢ place_of address = λ e. apart (ap (λ place. place * 4) e) in
+      let ne : place_of other ≢ place_of address = λ e. apart (ap (λ index. index * 4) e) in
       rw get_or-set_other refl
 
-  behind_stay : (at n : ℕ) → IsApart address (addresses_behind at n)
+  after_stay : (at n : ℕ) → IsApart address (addresses_after at n)
       → words_behind (set ram address word) at n ≡ words_behind ram at n
-  behind_stay at zero apart = refl
-  behind_stay at (suc n) apart = rw (word_stays (at + 4) apart.0)
-      (ap (λ words. word_at ram (at + 4) ∷ words) (behind_stay (at + 4) n apart.1))
+  after_stay at zero apart = refl
+  after_stay at (suc n) apart = rw (word_stays (at + 4) apart.0)
+      (ap (λ words. word_at ram (at + 4) ∷ words) (after_stay (at + 4) n apart.1))
 
   node_stays : (node : ℕ) → IsApart address (node_addresses ram node)
       → node_words (set ram address word) node ≡ node_words ram node
-  node_stays node apart = rw (word_stays node apart.0) (behind_stay node (word_count ram node) apart.1)
+  node_stays node apart = rw (word_stays node apart.0) (after_stay node (word_count ram node) apart.1)
 
   nodes_stay : (nodes : List ℕ) → IsApart address (flat_map (node_addresses ram) nodes)
       → flat_map (node_words (set ram address word)) nodes ≡ flat_map (node_words ram) nodes
@@ -303,24 +303,24 @@ after_writes (event.Ram address word ∷ events) number gpu ram running =
 after_writes (other ∷ events) number gpu ram running = after_writes events number gpu ram running
 
 -- The machine after an event does not depend on the event's number.
-machine_same : (s : Machine) (number other : ℕ) (asked : Work)
+machine_same : (s : Machine) (number other : ℕ) (asked : Operation)
     → (done s number asked).machine ≡ (done s other asked).machine
-machine_same s number other work.Nothing = refl
-machine_same s number other (work.Put address word) = refl
-machine_same s number other (work.Feed words next) = refl
-machine_same s number other (work.Take block next) = refl
-machine_same s number other (work.Control word) = refl
-machine_same s number other work.Read = refl
-machine_same s number other work.Skip = refl
-machine_same s number other work.Stat = refl
-machine_same s number other (work.Clear madr n) = refl
-machine_same s number other (work.Begin next) = refl
+machine_same s number other operation.Nothing = refl
+machine_same s number other (operation.Put address word) = refl
+machine_same s number other (operation.Feed words next) = refl
+machine_same s number other (operation.Take block next) = refl
+machine_same s number other (operation.Control word) = refl
+machine_same s number other operation.Read = refl
+machine_same s number other operation.Skip = refl
+machine_same s number other operation.Stat = refl
+machine_same s number other (operation.Clear madr n) = refl
+machine_same s number other (operation.Begin next) = refl
 
 step_turn : (s : Machine) (number : ℕ) (events : List Event)
     → after_events s number (event.Turn ∷ events) ≡ after_events (turned s) (number + 1) events
 unfolding event_step
 step_turn s number events = ap (λ after. after_events after (number + 1) events)
-    (machine_same s number 0 (turn_work s.ram s.running))
+    (machine_same s number 0 (turn_operation s.ram s.running))
 
 step_write : (gpu : State) (ram : List ℕ) (running : Run) (number address word : ℕ) (events : List Event)
     → after_events (record { gpu = gpu; ram = ram; running = running }) number (event.Ram address word ∷ events)
@@ -383,12 +383,12 @@ module _ (n : ℕ) (walk : (ram : List ℕ) (node : ℕ) → walk_of ram node �
     ram : started.ram ≡ s.ram
     ends : Ends n s.ram started.running
     at_once : (number : ℕ) (on : Machine → Result Machine EventFault)
-        → then_after (stepped s number (start_work s.ram madr planned)) on
+        → then_after (stepped s number (start_operation s.ram madr planned)) on
         ≡ on (record { gpu = fed s.gpu (left_words n s.ram started.running); ram = s.ram; running = run.Idle })
 
   starts : (s started : Machine) (number madr bcr chcr : ℕ) (planned : Result Plan DmaFault)
       → MovesFromRam s.ram madr planned → MostWords planned
-      → then_after (stepped s number (begin_work (begun madr bcr chcr planned))) (λ after. Ok after) ≡ Ok started
+      → then_after (stepped s number (begin_operation (begun madr bcr chcr planned))) (λ after. Ok after) ≡ Ok started
       → Started s started madr planned
   starts s started number madr bcr chcr (Ok plan.Idle) moves most is = absurd moves
   starts s started number madr bcr chcr (Ok (plan.Words m back true)) moves most is = absurd (true≢false moves)

@@ -6,22 +6,22 @@ use Rattle.gpu_core.specs.Machine.{State}
 use Rattle.gathered_out.specs.Pieces.{Piece, piece}
 use Rattle.gathered_out.specs.Puts.{Puts}
 use Rattle.event_play.specs.Fed.{fed, fed_notes, fed_cost}
-use Rattle.event_play.specs.Lines.{IsGathered, lines_while, lines_cost}
+use Rattle.event_play.specs.Lines.{IsBuffered, lines_while, lines_cost}
 use Rattle.event_play.specs.Streams.{Outlets, sink_of}
-use Rattle.event_play.specs.Strokes.{fed_strokes}
+use Rattle.event_play.specs.Changes.{fed_changes}
 use Rattle.event_play.specs.Told.{told_notes}
 use Rattle.event_play.specs.declared.ending.Mode.{Mode}
-use Rattle.event_play.specs.declared.ending.Within.{Within}
+use Rattle.event_play.specs.declared.ending.EventInMode.{EventInMode}
 
 -- the lines of words fed in event `number`; below, the store steps of feeding them and of their lines
 abbrev pub fed_lines : Mode → State → (number : ℕ) → List ℕ → List ℕ
-fed_lines mode s number words = lines_while mode (fed_notes s number words) (fed_strokes s number words)
+fed_lines mode s number words = lines_while mode (fed_notes s number words) (fed_changes s number words)
 
 abbrev pub fed_lines_cost : Mode → State → (number : ℕ) → List ℕ → ℕ
-fed_lines_cost mode s number words = fed_cost s words + lines_cost mode [] (fed_strokes s number words)
+fed_lines_cost mode s number words = fed_cost s words + lines_cost mode [] (fed_changes s number words)
 
 -- event `number`, and the mode of output
-abbrev pub in_event : (number : ℕ) → Mode → Within
+abbrev pub in_event : (number : ℕ) → Mode → EventInMode
 in_event number mode = record { number = number; mode = mode }
 
 -- what feeding words changes: the sink, the taps and the store steps, and the essential state of the GPU
@@ -33,34 +33,36 @@ abbrev pub drawing : Outlets → Kept → Drawing
 drawing out gpu = record { out = out; gpu = gpu }
 
 -- These words were fed in this event, from the GPU state `s`.
-pub record Feeds (within : Within) (s : State) (words : List ℕ) (before : Outlets) (now : Drawing) : Type 0 where
+pub record Feeds (event_in_mode : EventInMode) (s : State) (words : List ℕ) (before : Outlets)
+    (now : Drawing) : Type 0 where
   pub stands : kept_of (fed s words) ≡ now.gpu
-  pub heard : now.out.heard ≡ told_notes (fed_notes s within.number words) before.heard
-  pub cost : now.out.steps ≤ before.steps + fed_lines_cost within.mode s within.number words
+  pub heard : now.out.heard ≡ told_notes (fed_notes s event_in_mode.number words) before.heard
+  pub cost : now.out.steps ≤ before.steps + fed_lines_cost event_in_mode.mode s event_in_mode.number words
 
 -- The first of these words were fed, up to one whose line could not be written.
-pub record StopsFeeding (within : Within) (s : State) (words : List ℕ) (was : Outlets) (now : Drawing) : Type 0 where
+pub record StopsFeeding (event_in_mode : EventInMode) (s : State) (words : List ℕ) (was : Outlets)
+    (now : Drawing) : Type 0 where
   pub before : List ℕ
   pub word : ℕ
   pub after : List ℕ
   pub is : words ≡ before ++ word ∷ after
   pub stands : kept_of (fed s (before ++ word ∷ [])) ≡ now.gpu
-  pub heard : now.out.heard ≡ told_notes (fed_notes s within.number (before ++ word ∷ [])) was.heard
-  pub cost : now.out.steps ≤ was.steps + fed_lines_cost within.mode s within.number (before ++ word ∷ [])
+  pub heard : now.out.heard ≡ told_notes (fed_notes s event_in_mode.number (before ++ word ∷ [])) was.heard
+  pub cost : now.out.steps ≤ was.steps + fed_lines_cost event_in_mode.mode s event_in_mode.number (before ++ word ∷ [])
 
 -- the lines of these words, as output of this event
-abbrev pub due_lines : Within → State → List ℕ → Piece
-due_lines within s words = piece within.number (fed_lines within.mode s within.number words)
+abbrev pub due_lines : EventInMode → State → List ℕ → Piece
+due_lines event_in_mode s words = piece event_in_mode.number (fed_lines event_in_mode.mode s event_in_mode.number words)
 
 -- What a call that feeds words does, for every GPU state with the essential state before it. Ok: all words were fed and
 -- all their lines added. Err: a line could not be written. Words have lines only in modes that buffer lines.
-pub record FeedsWords {Value : Type 0} (within : Within) (words : List ℕ) (before now : Drawing)
+pub record FeedsWords {Value : Type 0} (event_in_mode : EventInMode) (words : List ℕ) (before now : Drawing)
     (result : Result Value ℕ) : Type 0 where
-  pub ok : (s : State) → kept_of s ≡ before.gpu → OnOk result (Feeds within s words before.out now)
-  pub failed : (s : State) → kept_of s ≡ before.gpu → OnErr result (StopsFeeding within s words before.out now)
+  pub ok : (s : State) → kept_of s ≡ before.gpu → OnOk result (Feeds event_in_mode s words before.out now)
+  pub failed : (s : State) → kept_of s ≡ before.gpu → OnErr result (StopsFeeding event_in_mode s words before.out now)
   pub puts : (s : State) → kept_of s ≡ before.gpu
-      → Puts (due_lines within s words) (sink_of before.out) (sink_of now.out) result
-  pub kept : IsGathered within.mode ⊎ (now.out.gathered ≡ before.out.gathered)
-  pub gathers : OnErr result (IsGathered within.mode)
+      → Puts (due_lines event_in_mode s words) (sink_of before.out) (sink_of now.out) result
+  pub kept : IsBuffered event_in_mode.mode ⊎ (now.out.buffered ≡ before.out.buffered)
+  pub buffers : OnErr result (IsBuffered event_in_mode.mode)
   pub cause : OnErr result (Rose before.out.faults now.out.faults)
   pub faults : before.out.faults ≤ now.out.faults

@@ -9,14 +9,14 @@ use Rattle.packet_text.specs.Sums.{frame_sum_line, vram_sum_line}
 use Rattle.picture_out.specs.Dump.{dump}
 use Rattle.picture_out.specs.Picture.{picture, picture_cost}
 use Rattle.sha2.specs.Sha256.{sha256}
-use Rattle.event_play.specs.declared.ending.Moment.{Moment}
-use Rattle.event_play.specs.declared.ending.Moment.TheVariants.{Flip, Mark}
+use Rattle.event_play.specs.declared.ending.FrameTrigger.{FrameTrigger}
+use Rattle.event_play.specs.declared.ending.FrameTrigger.TheVariants.{Flip, Mark}
 
 -- whether a word of GP1 triggers a picture: a flip is opcode 05h, the start of the display area; a mark is opcode 3Fh,
 -- which has no effect
-abbrev pub is_moment : Moment → (word : ℕ) → Bool
-is_moment Flip word = opcode_of word == 5
-is_moment Mark word = opcode_of word == 0x3f
+abbrev pub is_frame_trigger : FrameTrigger → (word : ℕ) → Bool
+is_frame_trigger Flip word = opcode_of word == 5
+is_frame_trigger Mark word = opcode_of word == 0x3f
 
 -- what can be seen after a word of GP1: that word, the number of its event, and the parts of the GPU after it
 pub record Frame : Type 0 where
@@ -24,9 +24,9 @@ pub record Frame : Type 0 where
   pub number : ℕ
   pub parts : Parts
 
-abbrev pub frames_behind : Event → (number : ℕ) → Parts → List Frame
-frames_behind (event.Gp1 word) number parts = record { word = word; number = number; parts = parts } ∷ []
-frames_behind other number parts = []
+abbrev pub frames_after : Event → (number : ℕ) → Parts → List Frame
+frames_after (event.Gp1 word) number parts = record { word = word; number = number; parts = parts } ∷ []
+frames_after other number parts = []
 
 -- ---- the output for one frame
 
@@ -48,27 +48,27 @@ frame_cost parts = picture_cost parts.regs
 
 -- ---- the frames at the selected events
 
-abbrev pub picture_at : Moment → Frame → List ℕ
-picture_at at frame = if is_moment at frame.word then frame_bytes frame.parts else []
+abbrev pub picture_at : FrameTrigger → Frame → List ℕ
+picture_at at frame = if is_frame_trigger at frame.word then frame_bytes frame.parts else []
 
-abbrev pub sum_at : Moment → Frame → List ℕ
-sum_at at frame = if is_moment at frame.word then frame_sum frame.number frame.parts else []
+abbrev pub sum_at : FrameTrigger → Frame → List ℕ
+sum_at at frame = if is_frame_trigger at frame.word then frame_sum frame.number frame.parts else []
 
-abbrev pub cost_at : Moment → Frame → ℕ
-cost_at at frame = if is_moment at frame.word then frame_cost frame.parts else 0
+abbrev pub cost_at : FrameTrigger → Frame → ℕ
+cost_at at frame = if is_frame_trigger at frame.word then frame_cost frame.parts else 0
 
-abbrev pub frames_cost : Moment → List Frame → ℕ
+abbrev pub frames_cost : FrameTrigger → List Frame → ℕ
 frames_cost at [] = 0
 frames_cost at (frame ∷ frames) = cost_at at frame + frames_cost at frames
 
 -- ---- after the last event
 
 -- For flips, there is a picture after the last event too. For marks, there is none.
-abbrev pub bytes_at_end : Moment → (bytes : List ℕ) → List ℕ
+abbrev pub bytes_at_end : FrameTrigger → (bytes : List ℕ) → List ℕ
 bytes_at_end Flip bytes = bytes
 bytes_at_end Mark bytes = []
 
-abbrev pub cost_at_end : Moment → (cost : ℕ) → ℕ
+abbrev pub cost_at_end : FrameTrigger → (cost : ℕ) → ℕ
 cost_at_end Flip cost = cost
 cost_at_end Mark cost = 0
 

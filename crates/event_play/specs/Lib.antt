@@ -3,7 +3,7 @@ pub mod AlikeStates
 pub mod Block
 pub mod Causes
 pub mod Costs
-pub mod Course
+pub mod PlayInput
 pub mod Cursor
 pub mod Does
 pub mod Ends
@@ -21,15 +21,15 @@ pub mod Ports
 pub mod Reading
 pub mod Replay
 pub mod RigState
-pub mod Setting
+pub mod PlayState
 pub mod Shots
 pub mod Splits
 pub mod Step
 pub mod Stepping
 pub mod Streams
-pub mod Strokes
+pub mod Changes
 pub mod Taken
 pub mod Taking
 pub mod Told
 pub mod Turns
-pub mod Work
+pub mod Operation

@@ -19,11 +19,11 @@ pieces_for mode notes = []
 
 -- These pieces were added: they are written or buffered, after all earlier ones.
 pub record ArePut (pieces : List Piece) (before now : Holding) : Type 0 where
-  pub out : (base : Option (List ℕ)) (all : List Piece) → AreOut base all before.held (before.gathered ++ pieces)
-      → AreOut base all now.held now.gathered
+  pub out : (base : Option (List ℕ)) (all : List Piece) → AreOut base all before.held (before.buffered ++ pieces)
+      → AreOut base all now.held now.buffered
 
 -- what a call that adds them does; on failure, writing broke off among the buffered pieces and these
 pub record PutsPieces {Value : Type 0} (pieces : List Piece) (before now : Holding) (result : Result Value ℕ)
     : Type 0 where
   pub ok : OnOk result (ArePut pieces before now)
-  pub failed : IfErr result (BreaksWriting before.held now.held (before.gathered ++ pieces))
+  pub failed : IfErr result (BreaksWriting before.held now.held (before.buffered ++ pieces))

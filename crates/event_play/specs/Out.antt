@@ -10,7 +10,7 @@ use Rattle.picture_out.specs.Dump.{dump, dump_cost}
 use Rattle.picture_out.specs.Picture.{picture, picture_cost}
 use Rattle.event_play.specs.Frames.{frame_bytes, frame_sum, frame_cost, vram_sum, bytes_at_end, cost_at_end}
 use Rattle.event_play.specs.Lines.{lines_for, lines_cost}
-use Rattle.event_play.specs.Replay.{Tale, Played, next_number}
+use Rattle.event_play.specs.Replay.{Replay, Played, next_number}
 use Rattle.event_play.specs.Told.{told_notes}
 use Rattle.event_play.specs.declared.ending.Ending.{Ending}
 use Rattle.event_play.specs.declared.ending.Ending.TheVariants.{Done, NoPicture}
@@ -19,15 +19,15 @@ use Rattle.event_play.specs.declared.ending.Mode.TheVariants.{Vram, Shot, Report
 use Rattle.event_play.specs.declared.ending.Mode.TheVariants.{List as Listing, Play as Words}
 
 -- the output written during the replay
-abbrev pub lines_of : Mode → Tale → List ℕ
-lines_of mode t = lines_for mode t.shown t.frames t.notes t.strokes
+abbrev pub lines_of : Mode → Replay → List ℕ
+lines_of mode t = lines_for mode t.shown t.frames t.notes t.changes
 
 -- the most store steps of playing and of this output, also by the boxes
-abbrev pub tale_cost : Mode → Tale → ℕ
-tale_cost mode t = t.cost + lines_cost mode t.frames t.strokes
+abbrev pub replay_cost : Mode → Replay → ℕ
+replay_cost mode t = t.cost + lines_cost mode t.frames t.changes
 
-abbrev pub tale_box_cost : Mode → Tale → ℕ
-tale_box_cost mode t = t.box_cost + lines_cost mode t.frames t.strokes
+abbrev pub replay_box_cost : Mode → Replay → ℕ
+replay_box_cost mode t = t.box_cost + lines_cost mode t.frames t.changes
 
 -- ---- the end
 
@@ -44,7 +44,7 @@ unless_lacking lacks number ending = ending
 -- with `NoPicture` at the number of the next event.
 abbrev pub ending_under : Mode → Played → Ending
 ending_under mode r =
-    unless_lacking (lacks_picture mode r.tale.state.gpu.parts.regs) (next_number r.tale.played) r.ending
+    unless_lacking (lacks_picture mode r.replay.state.gpu.parts.regs) (next_number r.replay.played) r.ending
 
 -- the final output: the status line; all cells of video memory; the picture if one is shown; the line of its digest and
 -- that of video memory; or the line of each tap. `number`: the number of the next event
@@ -80,20 +80,21 @@ finals_cost_at ending mode s = 0
 -- the final output and its store steps; `heard`: what the taps recorded before the replay
 abbrev pub finals : Mode → (heard : List Reading) → Played → List ℕ
 finals mode heard r =
-    finals_at (ending_under mode r) mode (told_notes r.tale.notes heard) (next_number r.tale.played) r.tale.state.gpu
+    finals_at (ending_under mode r) mode (told_notes r.replay.notes heard)
+    (next_number r.replay.played) r.replay.state.gpu
 
 abbrev pub finals_cost : Mode → Played → ℕ
-finals_cost mode r = finals_cost_at (ending_under mode r) mode r.tale.state.gpu
+finals_cost mode r = finals_cost_at (ending_under mode r) mode r.replay.state.gpu
 
 -- ---- all of it
 
 -- all output
 abbrev pub out_bytes : Mode → (heard : List Reading) → Played → List ℕ
-out_bytes mode heard r = lines_of mode r.tale ++ finals mode heard r
+out_bytes mode heard r = lines_of mode r.replay ++ finals mode heard r
 
 -- the most store steps of playing and of all output, also by the boxes
 abbrev pub out_cost : Mode → Played → ℕ
-out_cost mode r = tale_cost mode r.tale + finals_cost mode r
+out_cost mode r = replay_cost mode r.replay + finals_cost mode r
 
 abbrev pub out_box_cost : Mode → Played → ℕ
-out_box_cost mode r = tale_box_cost mode r.tale + finals_cost mode r
+out_box_cost mode r = replay_box_cost mode r.replay + finals_cost mode r

@@ -6,7 +6,7 @@ use Rattle.gpu_core.specs.Machine.{State, first_state}
 use Rattle.list_dma.specs.declared.run.Run.{Run}
 use Rattle.list_dma.specs.declared.run.Run.TheVariants as run
 use Rattle.ot_clear_dma.specs.Ram.{first_memory}
-use Rattle.event_play.specs.Replay.{Tale}
+use Rattle.event_play.specs.Replay.{Replay}
 use Rattle.event_play.specs.Step.{Machine}
 
 pub record RigState : Type 0 where
@@ -30,7 +30,7 @@ abbrev pub machine_of : RigState → State → Machine
 machine_of rig s = record { gpu = s; ram = rig.ram; running = rig.running }
 
 -- a rig agrees with a replay: in the machine and the number of events played
-pub record StandsFor (rig : RigState) (t : Tale) : Type 0 where
+pub record StandsFor (rig : RigState) (t : Replay) : Type 0 where
   pub state : Stands rig t.state
   pub played : t.played ≡ rig.played
 

@@ -3,18 +3,18 @@ use Rattle.std.specs.Prelude.{◌≡◌, ℕ, Bool, false, List, [], ◌∷◌, 
 use Rattle.gpu_capture.specs.declared.event.Event.{Event}
 use Rattle.gpu_capture.specs.declared.event.Event.TheVariants as event
 use Rattle.gpu_taps.specs.Tally.{Reading}
-use Rattle.event_play.specs.Frames.{is_moment}
+use Rattle.event_play.specs.Frames.{is_frame_trigger}
 use Rattle.event_play.specs.Out.{out_bytes}
 use Rattle.event_play.specs.Replay.{from_state}
 use Rattle.event_play.specs.Splits.{alone, AreFaultless}
 use Rattle.event_play.specs.Step.{Machine}
 use Rattle.event_play.specs.declared.ending.Mode.TheVariants.{Shot, Frames}
-use Rattle.event_play.specs.declared.ending.Moment.{Moment}
-use Rattle.event_play.specs.declared.ending.Moment.TheVariants.{Flip, Mark}
+use Rattle.event_play.specs.declared.ending.FrameTrigger.{FrameTrigger}
+use Rattle.event_play.specs.declared.ending.FrameTrigger.TheVariants.{Flip, Mark}
 
 -- whether a picture is written after an event
-abbrev pub is_due : Moment → Event → Bool
-is_due at (event.Gp1 word) = is_moment at word
+abbrev pub is_due : FrameTrigger → Event → Bool
+is_due at (event.Gp1 word) = is_frame_trigger at word
 is_due at other = false
 
 -- what `shot` writes for events from a machine on, as if they were a whole capture; empty if no picture is shown
@@ -22,7 +22,7 @@ abbrev pub shot_of : Machine → (played : ℕ) → List Event → List ℕ
 shot_of s played events = out_bytes Shot [] (alone (from_state s played) events)
 
 -- for each event after `before` that has a picture, what `shot` writes for all events up to it
-abbrev pub film : Moment → Machine → (played : ℕ) → (before events : List Event) → List ℕ
+abbrev pub film : FrameTrigger → Machine → (played : ℕ) → (before events : List Event) → List ℕ
 film at s played before [] = []
 film at s played before (event ∷ events) =
     (if is_due at event then shot_of s played (before ++ event ∷ []) else [])

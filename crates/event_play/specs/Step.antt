@@ -13,12 +13,12 @@ use Rattle.ot_clear_dma.specs.Table.{cleared_table}
 use Rattle.event_play.specs.Block.{block_words}
 use Rattle.event_play.specs.Fed.{fed, fed_notes, fed_cost, fed_box_cost}
 use Rattle.event_play.specs.Taken.{taken}
-use Rattle.event_play.specs.Work.{work_of}
+use Rattle.event_play.specs.Operation.{operation_of}
 use Rattle.event_play.specs.declared.fault.EventFault.{EventFault}
-use Rattle.event_play.specs.declared.work.Work.{Work}
-use Rattle.event_play.specs.declared.work.Work.TheVariants as work
-use Rattle.event_play.specs.declared.work.Words.{Words}
-use Rattle.event_play.specs.declared.work.Words.TheVariants as words
+use Rattle.event_play.specs.declared.operation.Operation.{Operation}
+use Rattle.event_play.specs.declared.operation.Operation.TheVariants as operation
+use Rattle.event_play.specs.declared.operation.Words.{Words}
+use Rattle.event_play.specs.declared.operation.Words.TheVariants as words
 
 -- the GPU, main memory, and the running transfer
 pub record Machine : Type 0 where
@@ -58,76 +58,76 @@ abbrev pub showing : Machine → (shown : Option ℕ) → List Note → Stepped
 showing machine shown notes = record { machine = machine; shown = shown; notes = notes }
 
 -- the step that an operation makes in event `number`
-abbrev pub done : Machine → (number : ℕ) → Work → Stepped
-done s number work.Nothing = quiet s
-done s number (work.Put address word) = quiet (record s { ram = set s.ram address word })
-done s number (work.Feed asked next) = record {
+abbrev pub done : Machine → (number : ℕ) → Operation → Stepped
+done s number operation.Nothing = quiet s
+done s number (operation.Put address word) = quiet (record s { ram = set s.ram address word })
+done s number (operation.Feed asked next) = record {
   machine = record { gpu = fed s.gpu (words_of s.ram asked); ram = s.ram; running = next };
   shown = None;
   notes = fed_notes s.gpu number (words_of s.ram asked);
 }
-done s number (work.Take block next) =
+done s number (operation.Take block next) =
     let after = taken block s.gpu s.ram in quiet (record { gpu = after.gpu; ram = after.ram; running = next })
-done s number (work.Control word) = quiet (record s { gpu = after_gp1 s.gpu word })
-done s number work.Read = record {
+done s number (operation.Control word) = quiet (record s { gpu = after_gp1 s.gpu word })
+done s number operation.Read = record {
   machine = record s { gpu = after_read s.gpu };
   shown = Some (read_word s.gpu);
   notes = [];
 }
-done s number work.Skip = quiet (record s { gpu = after_read s.gpu })
-done s number work.Stat = record { machine = s; shown = Some (status_word s.gpu); notes = [] }
-done s number (work.Clear madr n) = quiet (record s { ram = cleared_table s.ram madr n })
-done s number (work.Begin next) = quiet (record s { running = next })
+done s number operation.Skip = quiet (record s { gpu = after_read s.gpu })
+done s number operation.Stat = record { machine = s; shown = Some (status_word s.gpu); notes = [] }
+done s number (operation.Clear madr n) = quiet (record s { ram = cleared_table s.ram madr n })
+done s number (operation.Begin next) = quiet (record s { running = next })
 
 -- the most store steps of an operation: those of the words that it feeds, or of its reads
-abbrev pub work_cost : Machine → Work → ℕ
-work_cost s (work.Feed asked next) = fed_cost s.gpu (words_of s.ram asked)
-work_cost s (work.Take block next) = (taken block s.gpu s.ram).cost
-work_cost s work.Read = read_cost s.gpu
-work_cost s work.Skip = read_cost s.gpu
-work_cost s other = 0
+abbrev pub operation_cost : Machine → Operation → ℕ
+operation_cost s (operation.Feed asked next) = fed_cost s.gpu (words_of s.ram asked)
+operation_cost s (operation.Take block next) = (taken block s.gpu s.ram).cost
+operation_cost s operation.Read = read_cost s.gpu
+operation_cost s operation.Skip = read_cost s.gpu
+operation_cost s other = 0
 
 -- the same by the boxes
-abbrev pub work_box_cost : Machine → Work → ℕ
-work_box_cost s (work.Feed asked next) = fed_box_cost s.gpu (words_of s.ram asked)
-work_box_cost s (work.Take block next) = (taken block s.gpu s.ram).box_cost
-work_box_cost s work.Read = read_box_cost s.gpu
-work_box_cost s work.Skip = read_box_cost s.gpu
-work_box_cost s other = 0
+abbrev pub operation_box_cost : Machine → Operation → ℕ
+operation_box_cost s (operation.Feed asked next) = fed_box_cost s.gpu (words_of s.ram asked)
+operation_box_cost s (operation.Take block next) = (taken block s.gpu s.ram).box_cost
+operation_box_cost s operation.Read = read_box_cost s.gpu
+operation_box_cost s operation.Skip = read_box_cost s.gpu
+operation_box_cost s other = 0
 
 -- ---- one event
 
-abbrev pub stepped : Machine → (number : ℕ) → Result Work EventFault → Result Stepped EventFault
+abbrev pub stepped : Machine → (number : ℕ) → Result Operation EventFault → Result Stepped EventFault
 stepped s number (Ok asked) = Ok (done s number asked)
 stepped s number (Err fault) = Err fault
 
-abbrev pub step_cost : Machine → Result Work EventFault → ℕ
-step_cost s (Ok asked) = work_cost s asked
+abbrev pub step_cost : Machine → Result Operation EventFault → ℕ
+step_cost s (Ok asked) = operation_cost s asked
 step_cost s (Err fault) = 0
 
-abbrev pub step_box_cost : Machine → Result Work EventFault → ℕ
-step_box_cost s (Ok asked) = work_box_cost s asked
+abbrev pub step_box_cost : Machine → Result Operation EventFault → ℕ
+step_box_cost s (Ok asked) = operation_box_cost s asked
 step_box_cost s (Err fault) = 0
 
 -- the step of event `number`, or its fault; a fault has no new machine
 unfoldable pub event_step : Machine → (number : ℕ) → Event → Result Stepped EventFault
-event_step s number event = stepped s number (work_of s.ram s.running event)
+event_step s number event = stepped s number (operation_of s.ram s.running event)
 
 -- the most store steps of an event
 unfoldable pub event_cost : Machine → Event → ℕ
-event_cost s event = step_cost s (work_of s.ram s.running event)
+event_cost s event = step_cost s (operation_of s.ram s.running event)
 
 -- the same by the boxes: four for each cell in the box of what is drawn, filled or copied, and for each pixel loaded or
 -- read
 unfoldable pub event_box_cost : Machine → Event → ℕ
-event_box_cost s event = step_box_cost s (work_of s.ram s.running event)
+event_box_cost s event = step_box_cost s (operation_of s.ram s.running event)
 
 -- ---- the words of an event
 
-abbrev pub asked_words : List ℕ → Result Work EventFault → List ℕ
-asked_words ram (Ok (work.Feed asked next)) = words_of ram asked
+abbrev pub asked_words : List ℕ → Result Operation EventFault → List ℕ
+asked_words ram (Ok (operation.Feed asked next)) = words_of ram asked
 asked_words ram other = []
 
 -- the words that an event feeds: one for Gp0, and those that a transfer from main memory moves
 abbrev pub event_words : Machine → Event → List ℕ
-event_words s event = asked_words s.ram (work_of s.ram s.running event)
+event_words s event = asked_words s.ram (operation_of s.ram s.running event)

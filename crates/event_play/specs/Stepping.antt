@@ -3,7 +3,7 @@ use Rattle.std.specs.Prelude.{◌≡◌, ◌≤◌, ℕ, ◌+◌, List, Option, 
 use Rattle.gp0_packets.specs.declared.note.Note.{Note}
 use Rattle.gpu_capture.specs.declared.event.Event.{Event}
 use Rattle.event_play.specs.RigState.{Stands}
-use Rattle.event_play.specs.Setting.{Setting}
+use Rattle.event_play.specs.PlayState.{PlayState}
 use Rattle.event_play.specs.Step.{Machine, event_step, event_cost, showing}
 use Rattle.event_play.specs.Streams.{Outlets}
 use Rattle.event_play.specs.Told.{told_notes}
@@ -17,7 +17,7 @@ abbrev pub numbered : (number : ℕ) → Event → Numbered
 numbered number event = record { number = number; event = event }
 
 -- The machine `s` played the event. The event showed this word, if any, and the taps received every note.
-pub record HasStepped (s : Machine) (given : Numbered) (shown : Option ℕ) (before : Outlets) (now : Setting)
+pub record HasStepped (s : Machine) (given : Numbered) (shown : Option ℕ) (before : Outlets) (now : PlayState)
     : Type 0 where
   pub machine : Machine
   pub notes : List Note

@@ -9,25 +9,25 @@ use Rattle.gpu_taps.specs.Tally.{Reading}
 pub record Outlets : Type 0 where
   pub held : Option (List ℕ)
   pub faults : ℕ
-  pub gathered : List Piece
+  pub buffered : List Piece
   pub heard : List Reading
   pub steps : ℕ
 
 -- the same with an empty buffer
 abbrev pub outlets : (held : Option (List ℕ)) (faults : ℕ) (heard : List Reading) (steps : ℕ) → Outlets
 outlets held faults heard steps =
-    record { held = held; faults = faults; gathered = []; heard = heard; steps = steps }
+    record { held = held; faults = faults; buffered = []; heard = heard; steps = steps }
 
 -- the same with these pieces in the buffer
-abbrev pub gathering : List Piece → Outlets → Outlets
-gathering pieces at = record at { gathered = pieces }
+abbrev pub buffering : List Piece → Outlets → Outlets
+buffering pieces at = record at { buffered = pieces }
 
 -- the sink and its buffer; below, the same with what the taps recorded and the store steps
 abbrev pub sink_of : Outlets → SinkState
-sink_of at = record { held = at.held; faults = at.faults; gathered = at.gathered }
+sink_of at = record { held = at.held; faults = at.faults; buffered = at.buffered }
 
 abbrev pub with_sink : SinkState → (heard : List Reading) (steps : ℕ) → Outlets
-with_sink at heard steps = gathering at.gathered (outlets at.held at.faults heard steps)
+with_sink at heard steps = buffering at.buffered (outlets at.held at.faults heard steps)
 
 -- the same for a call that writes nothing
 abbrev pub without_sink : (heard : List Reading) (steps : ℕ) → Outlets

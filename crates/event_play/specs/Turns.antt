@@ -13,7 +13,7 @@ use Rattle.list_dma.specs.declared.run.Run.TheVariants as run
 use Rattle.ot_clear_dma.specs.Ram.{cut, set}
 use Rattle.event_play.specs.Block.{address_in}
 use Rattle.event_play.specs.Step.{Machine, Stepped, event_step, done}
-use Rattle.event_play.specs.Work.{turn_work}
+use Rattle.event_play.specs.Operation.{turn_operation}
 use Rattle.event_play.specs.declared.block.Block.{Block}
 use Rattle.event_play.specs.declared.fault.EventFault.{EventFault}
 
@@ -38,13 +38,13 @@ writes_of (other ∷ events) = writes_of events
 -- ---- what remains of a transfer
 
 -- the addresses of the n words after an address
-abbrev pub addresses_behind : (address n : ℕ) → List ℕ
-addresses_behind address zero = []
-addresses_behind address (suc n) = (address + 4) ∷ addresses_behind (address + 4) n
+abbrev pub addresses_after : (address n : ℕ) → List ℕ
+addresses_after address zero = []
+addresses_after address (suc n) = (address + 4) ∷ addresses_after (address + 4) n
 
 -- the addresses of a node's header and of its words
 abbrev pub node_addresses : List ℕ → (node : ℕ) → List ℕ
-node_addresses ram node = node ∷ addresses_behind node (word_count ram node)
+node_addresses ram node = node ∷ addresses_after node (word_count ram node)
 
 -- the addresses of the first i words of a block
 abbrev pub first_addresses : Block → ℕ → List ℕ
@@ -64,7 +64,7 @@ IsApart address (other ∷ others) = (cut other ≢ cut address) × IsApart addr
 
 -- the machine after a turn
 abbrev pub turned : Machine → Machine
-turned s = (done s 0 (turn_work s.ram s.running)).machine
+turned s = (done s 0 (turn_operation s.ram s.running)).machine
 
 -- Only turns and writes occur, and no write is to an address that then remains to be read.
 abbrev pub AreApart : Machine → List Event → Type 0

@@ -6,7 +6,7 @@ ghost use Rattle.event_play.specs.PlayedWords.{after_word, after_words};
 ghost use Rattle.event_play.specs.Replay.{from_state, next_number};
 ghost use Rattle.event_play.specs.RigState.{Stands};
 ghost use Rattle.event_play.specs.Step.{Machine};
-ghost use Rattle.event_play.specs.Setting.{setting};
+ghost use Rattle.event_play.specs.PlayState.{play_state};
 ghost use Rattle.event_play.specs.Stepping.{HasStepped, numbered};
 ghost use Rattle.event_play.specs.Streams.{without_sink};
 
@@ -49,7 +49,7 @@ impl Rig {
         ensures stepped { (s : Machine) → Stands self.old s →
             HasStepped s (numbered (next_number self.old.played) (Event.Gp0 word)) None
             (without_sink (map T.heard taps.old.items) steps.old)
-            (setting (without_sink (map T.heard taps.new.items) steps.new) self.new) }
+            (play_state (without_sink (map T.heard taps.new.items) steps.new) self.new) }
         ensures played { self.new.played ≡ next_number self.old.played }
     {
         let number = self.next_number();

@@ -1,18 +1,18 @@
 // Plays the events of a capture one by one, with their output.
 ghost use Rattle.std.specs.Prelude.{◌≡◌, map};
 ghost use Rattle.event_play.specs.Ends.{PlaysOrEnds};
-ghost use Rattle.event_play.specs.Setting.{setting};
-ghost use Rattle.event_play.specs.Streams.{gathering, outlets};
+ghost use Rattle.event_play.specs.PlayState.{play_state};
+ghost use Rattle.event_play.specs.Streams.{buffering, outlets};
 
-use crate::ending::{Ending, InMode, Within};
+use crate::ending::{Ending, EventInMode, InMode};
 use crate::feed::feed_word;
 use crate::film::Played;
-use crate::finals::write_behind;
-use crate::judge::judge;
+use crate::finals::write_after;
 use crate::outlet::Lines;
 use crate::rig::Rig;
+use crate::validate::validate;
 use dev_io::Sink;
-use gathered_out::Gathered;
+use gathered_out::OutputBuffer;
 use gpu_capture::Event;
 use gpu_taps::Listener;
 use std::sync::ledger::Ledger;
@@ -23,19 +23,19 @@ impl Rig {
     pub(crate) fn play_event<K: Sink, T: Listener, L: Ledger>(
         &mut self,
         event: InMode<Event>,
-        lines: &mut Gathered,
+        lines: &mut OutputBuffer,
         out: &mut K,
         taps: &mut Vec<T>,
         steps: &mut Steps<L>,
     ) -> Result<(), Ending>
         ensures { PlaysOrEnds event.mode event.value
-            (setting (gathering lines.old (outlets (K.held out.old) (K.faults out.old)
+            (play_state (buffering lines.old (outlets (K.held out.old) (K.faults out.old)
             (map T.heard taps.old.items) steps.old)) self.old)
-            (setting (gathering lines.new (outlets (K.held out.new) (K.faults out.new)
+            (play_state (buffering lines.new (outlets (K.held out.new) (K.faults out.new)
             (map T.heard taps.new.items) steps.new)) self.new) result }
     {
         let lines = &mut Lines {
-            gathered: lines,
+            buffered: lines,
             out,
         };
         let mode = event.mode;
@@ -55,19 +55,21 @@ impl Rig {
         steps: &mut Steps<L>,
     ) -> Result<(), Ending>
         ensures plays { PlaysOrEnds word.mode (Event.Gp0 word.value)
-            (setting (gathering lines.old.gathered.now (outlets (K.held lines.old.out.now) (K.faults lines.old.out.now)
+            (play_state (buffering lines.old.buffered.now
+            (outlets (K.held lines.old.out.now) (K.faults lines.old.out.now)
             (map T.heard taps.old.items) steps.old)) self.old)
-            (setting (gathering lines.new.gathered.now (outlets (K.held lines.new.out.now) (K.faults lines.new.out.now)
+            (play_state (buffering lines.new.buffered.now
+            (outlets (K.held lines.new.out.now) (K.faults lines.new.out.now)
             (map T.heard taps.new.items) steps.new)) self.new) result }
-        ensures gathered { lines.new.gathered.ghost_name ≡ lines.old.gathered.ghost_name }
+        ensures buffered { lines.new.buffered.ghost_name ≡ lines.old.buffered.ghost_name }
         ensures out { lines.new.out.ghost_name ≡ lines.old.out.ghost_name }
     {
         let number = self.next_number();
-        let within = Within {
+        let event_in_mode = EventInMode {
             number,
             mode: word.mode,
         };
-        match feed_word(&mut self.gpu, within, word.value, lines, taps, steps) {
+        match feed_word(&mut self.gpu, event_in_mode, word.value, lines, taps, steps) {
             Ok(()) => {
                 self.played = number;
                 Ok(())
@@ -85,16 +87,18 @@ impl Rig {
         steps: &mut Steps<L>,
     ) -> Result<(), Ending>
         ensures plays { PlaysOrEnds event.mode event.value
-            (setting (gathering lines.old.gathered.now (outlets (K.held lines.old.out.now) (K.faults lines.old.out.now)
+            (play_state (buffering lines.old.buffered.now
+            (outlets (K.held lines.old.out.now) (K.faults lines.old.out.now)
             (map T.heard taps.old.items) steps.old)) self.old)
-            (setting (gathering lines.new.gathered.now (outlets (K.held lines.new.out.now) (K.faults lines.new.out.now)
+            (play_state (buffering lines.new.buffered.now
+            (outlets (K.held lines.new.out.now) (K.faults lines.new.out.now)
             (map T.heard taps.new.items) steps.new)) self.new) result }
-        ensures gathered { lines.new.gathered.ghost_name ≡ lines.old.gathered.ghost_name }
+        ensures buffered { lines.new.buffered.ghost_name ≡ lines.old.buffered.ghost_name }
         ensures out { lines.new.out.ghost_name ≡ lines.old.out.ghost_name }
     {
         let number = self.next_number();
-        let work = match judge(&event.value, &mut self.walk, &self.ram, self.running) {
-            Ok(work) => work,
+        let operation = match validate(&event.value, &mut self.walk, &self.ram, self.running) {
+            Ok(operation) => operation,
             Err(fault) => {
                 return Err(Ending::Faulted {
                     event: number,
@@ -102,11 +106,11 @@ impl Rig {
                 });
             }
         };
-        let within = Within {
+        let event_in_mode = EventInMode {
             number,
             mode: event.mode,
         };
-        match self.perform(within, work, lines, taps, steps) {
+        match self.perform(event_in_mode, operation, lines, taps, steps) {
             Err(event) => Err(Ending::WriteFailed { event }),
             Ok(shown) => {
                 self.played = number;
@@ -115,7 +119,7 @@ impl Rig {
                     number,
                     shown,
                 };
-                let Ok(()) = write_behind(&self.gpu, played, lines.out, event.mode, steps) else {
+                let Ok(()) = write_after(&self.gpu, played, lines.out, event.mode, steps) else {
                     return Err(Ending::WriteFailed { event: number });
                 };
                 Ok(())

@@ -2,12 +2,12 @@
 // playing changes: the GPU, the lines, the taps and the store steps.
 ghost use Rattle.std.specs.Prelude.{◌≡◌, ◌≤◌, ◌<◌, ◌+◌, [], ◌∷◌, length, take, map};
 ghost use Rattle.event_play.specs.Feeding.{FeedsWords, drawing, in_event};
-ghost use Rattle.event_play.specs.PlayedWords.{IsTold, after_words, number_behind};
-ghost use Rattle.event_play.specs.Replay.{Tale};
+ghost use Rattle.event_play.specs.PlayedWords.{IsTold, after_words, number_after};
+ghost use Rattle.event_play.specs.Replay.{Replay};
 ghost use Rattle.event_play.specs.Streams.{Outlets, with_sink, without_sink};
-ghost use Rattle.event_play.specs.Strokes.{seen_cell};
+ghost use Rattle.event_play.specs.Changes.{seen_cell};
 
-use crate::ending::{Mode, Within};
+use crate::ending::{EventInMode, Mode};
 use crate::outlet::{Outlet, put_changed, put_listed};
 use crate::words::WordCursor;
 use gpu_core::Gpu;
@@ -20,20 +20,20 @@ use vram_store::Steps;
 /// cannot be written, feeds no further word, and returns the number of the first event whose lines are incomplete.
 pub(crate) fn feed<O: Outlet, T: Listener, L: Ledger>(
     gpu: &mut Gpu,
-    within: Within,
+    event_in_mode: EventInMode,
     words: WordCursor,
     lines: &mut O,
     taps: &mut Vec<T>,
     steps: &mut Steps<L>,
 ) -> Result<(), u64>
-    ensures feeds { FeedsWords within words.entry
+    ensures feeds { FeedsWords event_in_mode words.entry
         (drawing (with_sink (O.state lines.old) (map T.heard taps.old.items) steps.old) gpu.old)
         (drawing (with_sink (O.state lines.new) (map T.heard taps.new.items) steps.new) gpu.new) result }
     ensures same { O.same lines.old lines.new }
 {
     let mut left = words;
     'words: while let Some(word) = left.next() {
-        match feed_word(gpu, within, word, lines, taps, steps) {
+        match feed_word(gpu, event_in_mode, word, lines, taps, steps) {
             Ok(()) => {}
             Err(lacking) => return Err(lacking),
         }
@@ -45,19 +45,19 @@ pub(crate) fn feed<O: Outlet, T: Listener, L: Ledger>(
 /// failure, returns the number of the first event whose lines are incomplete; the word has then been fed.
 pub(crate) fn feed_word<O: Outlet, T: Listener, L: Ledger>(
     gpu: &mut Gpu,
-    within: Within,
+    event_in_mode: EventInMode,
     word: u32,
     lines: &mut O,
     taps: &mut Vec<T>,
     steps: &mut Steps<L>,
 ) -> Result<(), u64>
-    ensures feeds { FeedsWords within (word ∷ [])
+    ensures feeds { FeedsWords event_in_mode (word ∷ [])
         (drawing (with_sink (O.state lines.old) (map T.heard taps.old.items) steps.old) gpu.old)
         (drawing (with_sink (O.state lines.new) (map T.heard taps.new.items) steps.new) gpu.new) result }
     ensures same { O.same lines.old lines.new }
 {
-    let number = within.number;
-    match within.mode {
+    let number = event_in_mode.number;
+    match event_in_mode.mode {
         Mode::List => {
             let note = gpu.gp0(number, word, taps, steps);
             put_listed(number, &note, lines)
@@ -118,7 +118,7 @@ pub(crate) fn feed_events<T: Listener, L: Ledger>(
     taps: &mut Vec<T>,
     steps: &mut Steps<L>,
 ) -> u64
-    ensures { (t : Tale) (first : Outlets)
+    ensures { (t : Replay) (first : Outlets)
         → IsTold t first (without_sink (map T.heard taps.old.items) steps.old) gpu.old played
         → IsTold (after_words t words.now) first (without_sink (map T.heard taps.new.items) steps.new) gpu.new result }
 {
@@ -145,10 +145,10 @@ fn feed_first<T: Listener, L: Ledger>(
     requires { 0 < length words.now }
     ensures some { 0 < result }
     ensures within { result ≤ length words.now }
-    ensures told { (t : Tale) (first : Outlets)
+    ensures told { (t : Replay) (first : Outlets)
         → IsTold t first (without_sink (map T.heard taps.old.items) steps.old) gpu.old played
         → IsTold (after_words t (take result words.now)) first
-        (without_sink (map T.heard taps.new.items) steps.new) gpu.new (number_behind played result) }
+        (without_sink (map T.heard taps.new.items) steps.new) gpu.new (number_after played result) }
 {
     gpu.take_first(played, words, taps, steps)
 }

@@ -2,10 +2,10 @@
 ghost use Rattle.std.specs.Prelude.{◌≡◌, ◌≤◌, ◌+◌, ◌++◌, flat_map};
 ghost use Rattle.dev_io.specs.Device.{Writes, side};
 ghost use Rattle.picture_out.specs.Dump.{dump_cost};
-ghost use Rattle.event_play.specs.Frames.{is_moment, frames_behind, frame_bytes, frame_sum, frame_cost, vram_sum};
+ghost use Rattle.event_play.specs.Frames.{is_frame_trigger, frames_after, frame_bytes, frame_sum, frame_cost, vram_sum};
 ghost use Rattle.event_play.specs.Frames.{picture_at, sum_at, frames_cost, bytes_at_end, cost_at_end};
 
-use crate::ending::Moment;
+use crate::ending::FrameTrigger;
 use dev_io::{Failed, Sink};
 use gpu_capture::Event;
 use gpu_core::Gpu;
@@ -27,16 +27,16 @@ pub(crate) struct Played {
 pub(crate) fn write_frames<K: Sink, L: Ledger>(
     gpu: &Gpu,
     played: Played,
-    at: Moment,
+    at: FrameTrigger,
     out: &mut K,
     steps: &mut Steps<L>,
 ) -> Result<(), Failed>
     ensures writes { Writes (side K.held K.faults) out.old out.new
-        (flat_map (picture_at at) (frames_behind played.event played.number gpu.now.parts)) result }
-    ensures cost { steps.new ≤ steps.old + frames_cost at (frames_behind played.event played.number gpu.now.parts) }
+        (flat_map (picture_at at) (frames_after played.event played.number gpu.now.parts)) result }
+    ensures cost { steps.new ≤ steps.old + frames_cost at (frames_after played.event played.number gpu.now.parts) }
 {
     match played.event {
-        Event::Gp1 { word } if is_moment(at, word) => write_frame(gpu, out, steps),
+        Event::Gp1 { word } if is_frame_trigger(at, word) => write_frame(gpu, out, steps),
         _ => Ok(()),
     }
 }
@@ -45,35 +45,40 @@ pub(crate) fn write_frames<K: Sink, L: Ledger>(
 pub(crate) fn write_sums<K: Sink, L: Ledger>(
     gpu: &Gpu,
     played: Played,
-    at: Moment,
+    at: FrameTrigger,
     out: &mut K,
     steps: &mut Steps<L>,
 ) -> Result<(), Failed>
     ensures writes { Writes (side K.held K.faults) out.old out.new
-        (flat_map (sum_at at) (frames_behind played.event played.number gpu.now.parts)) result }
-    ensures cost { steps.new ≤ steps.old + frames_cost at (frames_behind played.event played.number gpu.now.parts) }
+        (flat_map (sum_at at) (frames_after played.event played.number gpu.now.parts)) result }
+    ensures cost { steps.new ≤ steps.old + frames_cost at (frames_after played.event played.number gpu.now.parts) }
 {
     match played.event {
-        Event::Gp1 { word } if is_moment(at, word) => write_sum(gpu, played.number, out, steps),
+        Event::Gp1 { word } if is_frame_trigger(at, word) => write_sum(
+            gpu,
+            played.number,
+            out,
+            steps,
+        ),
         _ => Ok(()),
     }
 }
 
 // Returns whether `at` selects this word of GP1: opcode 05h for `Flip`, 3Fh for `Mark`.
-fn is_moment(at: Moment, word: u32) -> bool
-    ensures { result ≡ is_moment at word }
+fn is_frame_trigger(at: FrameTrigger, word: u32) -> bool
+    ensures { result ≡ is_frame_trigger at word }
 {
     let opcode = bits(word, 24, 6);
     match at {
-        Moment::Flip => opcode == 0x05,
-        Moment::Mark => opcode == 0x3f,
+        FrameTrigger::Flip => opcode == 0x05,
+        FrameTrigger::Mark => opcode == 0x3f,
     }
 }
 
 /// Writes the picture at the end if `at` is `Flip` and a picture is shown.
 pub(crate) fn write_last_frame<K: Sink, L: Ledger>(
     gpu: &Gpu,
-    at: Moment,
+    at: FrameTrigger,
     out: &mut K,
     steps: &mut Steps<L>,
 ) -> Result<(), Failed>
@@ -82,8 +87,8 @@ pub(crate) fn write_last_frame<K: Sink, L: Ledger>(
     ensures cost { steps.new ≤ steps.old + cost_at_end at (frame_cost gpu.now.parts) }
 {
     match at {
-        Moment::Flip => write_frame(gpu, out, steps),
-        Moment::Mark => Ok(()),
+        FrameTrigger::Flip => write_frame(gpu, out, steps),
+        FrameTrigger::Mark => Ok(()),
     }
 }
 
@@ -92,7 +97,7 @@ pub(crate) fn write_last_frame<K: Sink, L: Ledger>(
 pub(crate) fn write_last_sums<K: Sink, L: Ledger>(
     gpu: &Gpu,
     number: u64,
-    at: Moment,
+    at: FrameTrigger,
     out: &mut K,
     steps: &mut Steps<L>,
 ) -> Result<(), Failed>
@@ -108,7 +113,7 @@ pub(crate) fn write_last_sums<K: Sink, L: Ledger>(
 fn write_last_sum<K: Sink, L: Ledger>(
     gpu: &Gpu,
     number: u64,
-    at: Moment,
+    at: FrameTrigger,
     out: &mut K,
     steps: &mut Steps<L>,
 ) -> Result<(), Failed>
@@ -117,8 +122,8 @@ fn write_last_sum<K: Sink, L: Ledger>(
     ensures cost { steps.new ≤ steps.old + cost_at_end at (frame_cost gpu.now.parts) }
 {
     match at {
-        Moment::Flip => write_sum(gpu, number, out, steps),
-        Moment::Mark => Ok(()),
+        FrameTrigger::Flip => write_sum(gpu, number, out, steps),
+        FrameTrigger::Mark => Ok(()),
     }
 }
 

@@ -5,11 +5,11 @@ ghost use Rattle.gpu_core.specs.Kept.{kept_of};
 ghost use Rattle.gpu_core.specs.Machine.{State};
 ghost use Rattle.packet_text.specs.Line.{word_line};
 ghost use Rattle.packet_text.specs.Tap.{tap_line};
-ghost use Rattle.event_play.specs.Frames.{frames_behind};
-ghost use Rattle.event_play.specs.Lines.{lines_behind, lines_cost, WritesBehind};
+ghost use Rattle.event_play.specs.Frames.{frames_after};
+ghost use Rattle.event_play.specs.Lines.{lines_after, lines_cost, WritesAfter};
 ghost use Rattle.event_play.specs.Out.{final_bytes, final_cost, lacks_picture};
 
-use crate::ending::{Mode, Within};
+use crate::ending::{EventInMode, Mode};
 use crate::film::{Played, write_frames, write_last_frame, write_last_sums, write_sums};
 use dev_io::{Failed, Sink};
 use gpu_core::Gpu;
@@ -21,7 +21,7 @@ use vram_store::Steps;
 
 /// Writes the output after an event by the mode: the line of its shown word, or the picture or the line of its digest
 /// if the mode selects this event.
-pub(crate) fn write_behind<K: Sink, L: Ledger>(
+pub(crate) fn write_after<K: Sink, L: Ledger>(
     gpu: &Gpu,
     played: Played,
     out: &mut K,
@@ -29,11 +29,11 @@ pub(crate) fn write_behind<K: Sink, L: Ledger>(
     steps: &mut Steps<L>,
 ) -> Result<(), Failed>
     ensures writes { Writes (side K.held K.faults) out.old out.new
-        (lines_behind mode (option_to_list played.shown)
-        (frames_behind played.event played.number gpu.now.parts)) result }
-    ensures mode { OnErr result (WritesBehind mode) }
+        (lines_after mode (option_to_list played.shown)
+        (frames_after played.event played.number gpu.now.parts)) result }
+    ensures mode { OnErr result (WritesAfter mode) }
     ensures cost { steps.new ≤ steps.old
-        + lines_cost mode (frames_behind played.event played.number gpu.now.parts) [] }
+        + lines_cost mode (frames_after played.event played.number gpu.now.parts) [] }
 {
     match mode {
         Mode::Play => write_shown(played.shown, out),
@@ -68,25 +68,25 @@ pub(crate) fn lacks_picture(gpu: &Gpu, mode: Mode) -> bool
 #[tactic(auto, unfolding(crate::specs::Out::final_bytes, crate::specs::Out::final_cost))]
 pub(crate) fn write_finals<K: Sink, T: Listener, L: Ledger>(
     gpu: &Gpu,
-    within: Within,
+    event_in_mode: EventInMode,
     out: &mut K,
     taps: &Vec<T>,
     steps: &mut Steps<L>,
 ) -> Result<(), Failed>
-    requires { lacks_picture within.mode gpu.now.parts.regs ≡ false }
+    requires { lacks_picture event_in_mode.mode gpu.now.parts.regs ≡ false }
     ensures writes { (s : State) → kept_of s ≡ gpu.now →
         Writes (side K.held K.faults) out.old out.new
-        (final_bytes within.mode (map T.heard taps.now.items) within.number s) result }
+        (final_bytes event_in_mode.mode (map T.heard taps.now.items) event_in_mode.number s) result }
     ensures cause { OnErr result (Rose (K.faults out.old) (K.faults out.new)) }
     ensures faults { K.faults out.old ≤ K.faults out.new }
-    ensures cost { (s : State) → kept_of s ≡ gpu.now → steps.new ≤ steps.old + final_cost within.mode s }
+    ensures cost { (s : State) → kept_of s ≡ gpu.now → steps.new ≤ steps.old + final_cost event_in_mode.mode s }
 {
-    match within.mode {
+    match event_in_mode.mode {
         Mode::Play => write_status(out, gpu.status()),
         Mode::Vram => write_vram(gpu.vram(), out, steps),
         Mode::Shot => write_ppm(gpu.vram(), gpu.regs(), out, steps),
         Mode::Frames { at } => write_last_frame(gpu, at, out, steps),
-        Mode::Sums { at } => write_last_sums(gpu, within.number, at, out, steps),
+        Mode::Sums { at } => write_last_sums(gpu, event_in_mode.number, at, out, steps),
         Mode::List => Ok(()),
         Mode::Pixel { .. } => Ok(()),
         Mode::Report => write_report(out, taps),

@@ -4,10 +4,10 @@ ghost use Rattle.std.specs.Prelude.{◌≡◌, ◌≤◌, ◌<◌, length, take,
 ghost use Rattle.dev_io.specs.Device.{Rose};
 ghost use Rattle.gathered_out.specs.Puts.{holding};
 ghost use Rattle.gpu_core.specs.Feeds.{but_pixels};
-ghost use Rattle.event_play.specs.Lines.{MayGather};
+ghost use Rattle.event_play.specs.Lines.{MayBuffer};
 ghost use Rattle.event_play.specs.Listing.{PutsPieces, listed_pieces, pieces_for};
-ghost use Rattle.event_play.specs.PlayedWords.{IsTold, after_words, number_behind, word_notes};
-ghost use Rattle.event_play.specs.Replay.{Tale};
+ghost use Rattle.event_play.specs.PlayedWords.{IsTold, after_words, number_after, word_notes};
+ghost use Rattle.event_play.specs.Replay.{Replay};
 ghost use Rattle.event_play.specs.Streams.{Outlets, without_sink};
 
 use crate::ending::Mode;
@@ -15,7 +15,7 @@ use crate::feed::feed_events;
 use crate::outlet::{Lines, put_noted};
 use crate::rig::Rig;
 use dev_io::Sink;
-use gathered_out::Gathered;
+use gathered_out::OutputBuffer;
 use gpu_capture::WordBlock;
 use gpu_core::{Gpu, NotedWords};
 use gpu_taps::Listener;
@@ -36,20 +36,20 @@ impl Rig {
     pub(crate) fn play_words<K: Sink, T: Listener, L: Ledger>(
         &mut self,
         words: &ModeWords,
-        lines: &mut Gathered,
+        lines: &mut OutputBuffer,
         out: &mut K,
         taps: &mut Vec<T>,
         steps: &mut Steps<L>,
     ) -> Result<(), u64>
-        ensures told { (t : Tale) (first : Outlets)
+        ensures told { (t : Replay) (first : Outlets)
             → IsTold t first (without_sink (map T.heard taps.old.items) steps.old) self.old.gpu self.old.played
             → IsTold (after_words t words.now.block) first (without_sink (map T.heard taps.new.items) steps.new)
             self.new.gpu self.new.played }
-        ensures puts { (t : Tale) (first : Outlets)
+        ensures puts { (t : Replay) (first : Outlets)
             → IsTold t first (without_sink (map T.heard taps.old.items) steps.old) self.old.gpu self.old.played
             → PutsPieces (pieces_for words.now.mode (word_notes t words.now.block))
             (holding (K.held out.old) lines.old) (holding (K.held out.new) lines.new) result }
-        ensures free { MayGather words.now.mode lines.old → MayGather words.now.mode lines.new }
+        ensures free { MayBuffer words.now.mode lines.old → MayBuffer words.now.mode lines.new }
         ensures ram { self.new.ram ≡ self.old.ram }
         ensures running { self.new.running ≡ self.old.running }
         ensures cause { OnErr result (Rose (K.faults out.old) (K.faults out.new)) }
@@ -59,7 +59,7 @@ impl Rig {
         match words.mode {
             Mode::List => {
                 let lines = &mut Lines {
-                    gathered: lines,
+                    buffered: lines,
                     out,
                 };
                 list_events(&mut self.gpu, &mut self.played, fed, lines, taps, steps)
@@ -83,18 +83,18 @@ fn list_events<K: Sink, T: Listener, L: Ledger>(
     taps: &mut Vec<T>,
     steps: &mut Steps<L>,
 ) -> Result<(), u64>
-    ensures told { (t : Tale) (first : Outlets)
+    ensures told { (t : Replay) (first : Outlets)
         → IsTold t first (without_sink (map T.heard taps.old.items) steps.old) gpu.old played.old
         → IsTold (after_words t words.now) first (without_sink (map T.heard taps.new.items) steps.new)
         gpu.new played.new }
-    ensures puts { (t : Tale) (first : Outlets)
+    ensures puts { (t : Replay) (first : Outlets)
         → IsTold t first (without_sink (map T.heard taps.old.items) steps.old) gpu.old played.old
         → PutsPieces (listed_pieces (word_notes t words.now))
-        (holding (K.held lines.old.out.now) lines.old.gathered.now)
-        (holding (K.held lines.new.out.now) lines.new.gathered.now) result }
+        (holding (K.held lines.old.out.now) lines.old.buffered.now)
+        (holding (K.held lines.new.out.now) lines.new.buffered.now) result }
     ensures cause { OnErr result (Rose (K.faults lines.old.out.now) (K.faults lines.new.out.now)) }
     ensures faults { K.faults lines.old.out.now ≤ K.faults lines.new.out.now }
-    ensures gathered { lines.new.gathered.ghost_name ≡ lines.old.gathered.ghost_name }
+    ensures buffered { lines.new.buffered.ghost_name ≡ lines.old.buffered.ghost_name }
     ensures out { lines.new.out.ghost_name ≡ lines.old.out.ghost_name }
 {
     let mut at = 0;
@@ -123,11 +123,11 @@ fn feed_noted<T: Listener, L: Ledger>(
     ensures some { 0 < result.count }
     ensures within { result.count ≤ length words.now }
     ensures class { IfSome result.note (λ note. note.class ≤ 9) }
-    ensures told { (t : Tale) (first : Outlets)
+    ensures told { (t : Replay) (first : Outlets)
         → IsTold t first (without_sink (map T.heard taps.old.items) steps.old) gpu.old played
         → IsTold (after_words t (take result.count words.now)) first
-        (without_sink (map T.heard taps.new.items) steps.new) gpu.new (number_behind played result.count) }
-    ensures gives { (t : Tale) (first : Outlets)
+        (without_sink (map T.heard taps.new.items) steps.new) gpu.new (number_after played result.count) }
+    ensures gives { (t : Replay) (first : Outlets)
         → IsTold t first (without_sink (map T.heard taps.old.items) steps.old) gpu.old played
         → but_pixels (word_notes t (take result.count words.now)) ≡ but_pixels (option_to_list result.note) }
 {

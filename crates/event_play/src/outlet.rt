@@ -5,10 +5,10 @@ ghost use Rattle.gathered_out.specs.Pieces.{piece};
 ghost use Rattle.gathered_out.specs.Puts.{Puts, SinkState, holding};
 ghost use Rattle.packet_text.specs.Line.{change_line, listed, note_line};
 ghost use Rattle.event_play.specs.Listing.{PutsPieces, listed_pieces};
-ghost use Rattle.event_play.specs.Strokes.{change_of};
+ghost use Rattle.event_play.specs.Changes.{cell_change_line};
 
 use dev_io::Sink;
-use gathered_out::Gathered;
+use gathered_out::OutputBuffer;
 use gp0_packets::Note;
 use packet_text::{change_text, note_text};
 
@@ -35,7 +35,7 @@ pub(crate) trait Outlet {
 /// Buffers lines for a sink.
 #[derive(Drop)]
 pub(crate) struct Lines<'a, K: Sink> {
-    pub(crate) gathered: &'a mut Gathered,
+    pub(crate) buffered: &'a mut OutputBuffer,
     pub(crate) out: &'a mut K,
 }
 
@@ -43,12 +43,12 @@ impl<'a, K: Sink> Outlet for Lines<'a, K> {
     ghost use Rattle.std.proofs.Common.{◌≡◌, ◌∙◌, refl};
     ghost use Rattle.gathered_out.specs.Puts.{sink_state};
 
-    ghost state = { λ s. sink_state K.held K.faults s.out.now s.gathered.now };
+    ghost state = { λ s. sink_state K.held K.faults s.out.now s.buffered.now };
 
-    ghost same = { λ s t. (s.gathered.ghost_name ≡ t.gathered.ghost_name) × (s.out.ghost_name ≡ t.out.ghost_name) };
+    ghost same = { λ s t. (s.buffered.ghost_name ≡ t.buffered.ghost_name) × (s.out.ghost_name ≡ t.out.ghost_name) };
 
     fn put(&mut self, number: u64, line: &[u8]) -> Result<(), u64> {
-        self.gathered.put(number, line, self.out)
+        self.buffered.put(number, line, self.out)
     }
 
     ghost same_at_first = { λ x. (refl, refl) };
@@ -63,7 +63,7 @@ pub(crate) struct NoLines {}
 impl Outlet for NoLines {
     ghost use Rattle.std.specs.Prelude.{[], None};
 
-    ghost state = { λ _. record { held = None; faults = 0; gathered = [] } };
+    ghost state = { λ _. record { held = None; faults = 0; buffered = [] } };
 
     ghost same = { λ _ _. Unit {0} };
 
@@ -84,7 +84,7 @@ pub(crate) fn put_changed<O: Outlet>(
     after: u16,
     lines: &mut O,
 ) -> Result<(), u64>
-    ensures puts { Puts (piece number (change_of note.now before after))
+    ensures puts { Puts (piece number (cell_change_line note.now before after))
         (O.state lines.old) (O.state lines.new) result }
     ensures same { O.same lines.old lines.new }
 {
@@ -117,17 +117,17 @@ pub(crate) fn put_listed<O: Outlet>(
 pub(crate) fn put_noted<K: Sink>(note: &Option<Note>, lines: &mut Lines<K>) -> Result<(), u64>
     requires { IfSome note.now (λ note. note.class ≤ 9) }
     ensures puts { PutsPieces (listed_pieces (option_to_list note.now))
-        (holding (K.held lines.old.out.now) lines.old.gathered.now)
-        (holding (K.held lines.new.out.now) lines.new.gathered.now) result }
+        (holding (K.held lines.old.out.now) lines.old.buffered.now)
+        (holding (K.held lines.new.out.now) lines.new.buffered.now) result }
     ensures cause { OnErr result (Rose (K.faults lines.old.out.now) (K.faults lines.new.out.now)) }
     ensures faults { K.faults lines.old.out.now ≤ K.faults lines.new.out.now }
-    ensures gathered { lines.new.gathered.ghost_name ≡ lines.old.gathered.ghost_name }
+    ensures buffered { lines.new.buffered.ghost_name ≡ lines.old.buffered.ghost_name }
     ensures out { lines.new.out.ghost_name ≡ lines.old.out.ghost_name }
 {
     match note {
         Some(told) if told.class != 9 => {
             lines
-                .gathered
+                .buffered
                 .put(told.event, note_text(told).as_slice(), lines.out)
         }
         _ => Ok(()),

@@ -1,24 +1,24 @@
 // Plays a capture to its end.
 ghost use Rattle.std.specs.Prelude.{◌≡◌, ◌≤◌, ◌+◌, None, map, OnOk, IfErr};
 ghost use Rattle.dev_io.specs.Device.{Rose};
-ghost use Rattle.gpu_capture.specs.Reader.{CountsFaults, IsReadFault, standing};
-ghost use Rattle.gpu_capture.specs.Words.{TakesWords, StopsBehind, GoesOn};
+ghost use Rattle.gpu_capture.specs.Reader.{CountsFaults, IsReadFault, reader_input};
+ghost use Rattle.gpu_capture.specs.Words.{TakesWords, StopsAfter, GoesOn};
 ghost use Rattle.event_play.specs.Causes.{MayReadFault, MayWriteFault, IsEnding};
-ghost use Rattle.event_play.specs.Course.{at_end};
-ghost use Rattle.event_play.specs.Lines.{IsGathered};
+ghost use Rattle.event_play.specs.PlayInput.{at_end};
+ghost use Rattle.event_play.specs.Lines.{IsBuffered};
 ghost use Rattle.event_play.specs.Playing.{EndsPlay};
 ghost use Rattle.event_play.specs.Reading.{SuitMode};
-ghost use Rattle.event_play.specs.Replay.{Tale, script_of, script_behind, from_state, raised};
+ghost use Rattle.event_play.specs.Replay.{Replay, script_of, script_after, from_state, raised};
 ghost use Rattle.event_play.specs.RigState.{Stands, StandsFor};
 ghost use Rattle.event_play.specs.Step.{Machine};
 ghost use Rattle.event_play.specs.Streams.{streams};
 
 use crate::ending::{Ending, InMode, Mode};
 use crate::listing::ModeWords;
-use crate::pause::{end_behind, write_at_pause, write_before_words};
+use crate::pause::{end_after, write_at_pause, write_before_words};
 use crate::rig::Rig;
 use dev_io::{Sink, Source};
-use gathered_out::Gathered;
+use gathered_out::OutputBuffer;
 use gpu_capture::{EventReader, Stop, WordBlock};
 use gpu_taps::Listener;
 use std::sync::ledger::Ledger;
@@ -76,7 +76,7 @@ impl Rig {
         requires { reader.old.stop ≡ None }
         // For every machine that agrees with the rig, playing from it and from the reader's offset ends like this.
         ensures ends { (s : Machine) → Stands self.old s
-            → EndsPlay mode (script_behind (from_state s self.old.played) reader.old.progress)
+            → EndsPlay mode (script_after (from_state s self.old.played) reader.old.progress)
             (streams (S.left source.old) (K.held out.old) (map T.heard taps.old.items) steps.old)
             (at_end (streams (S.left source.new) (K.held out.new) (map T.heard taps.new.items) steps.new) self.new)
             result }
@@ -90,19 +90,19 @@ impl Rig {
             block: WordBlock::new(),
             mode,
         };
-        let mut lines = Gathered::new();
+        let mut lines = OutputBuffer::new();
         let mut next = reader.next(source);
         self.raise(reader.version());
-        let mut since = reader.place();
+        let mut since = reader.offset();
         'events: loop {
             match next {
                 Ok(event) => {
                     let given = InMode { value: event, mode };
                     if let Err(ending) = self.play_event(given, &mut lines, out, taps, steps) {
-                        return end_behind(ending, &mut lines, out);
+                        return end_after(ending, &mut lines, out);
                     }
                     match write_before_words(reader, since, &mut lines, out) {
-                        Ok(place) => since = place,
+                        Ok(offset) => since = offset,
                         Err(event) => return Ending::WriteFailed { event },
                     }
                     let read = read_words(reader, source, mode, &mut words.block);
@@ -114,7 +114,7 @@ impl Rig {
                         return self.end_reading(given, &mut lines, out, taps, steps);
                     }
                     match write_at_pause(reader, source, since, &mut lines, out) {
-                        Ok(place) => since = place,
+                        Ok(offset) => since = offset,
                         Err(event) => return Ending::WriteFailed { event },
                     }
                     next = reader.next(source);
@@ -129,7 +129,7 @@ impl Rig {
 
     // Changes to the tall profile if captures of `version` are played in it.
     fn raise(&mut self, version: u8)
-        ensures { (t : Tale) → StandsFor self.old t → StandsFor self.new (raised t version) }
+        ensures { (t : Replay) → StandsFor self.old t → StandsFor self.new (raised t version) }
     {
         if version == TALL_VERSION {
             self.set_tall();
@@ -149,13 +149,13 @@ fn read_words<S: Source>(
     requires { reader.old.stop ≡ None }
     ensures goes_on { GoesOn reader.old.progress reader.new.progress }
     ensures suit { SuitMode mode reader.old.progress reader.new.progress block.new }
-    ensures waits { IsGathered mode
-        → reader.new.progress.place ≤ reader.old.progress.place + S.at_hand source.old }
-    ensures takes { OnOk result (TakesWords (standing reader.old.progress (S.left source.old))
-        (standing reader.new.progress (S.left source.new)) block.new) }
+    ensures waits { IsBuffered mode
+        → reader.new.progress.offset ≤ reader.old.progress.offset + S.at_hand source.old }
+    ensures takes { OnOk result (TakesWords (reader_input reader.old.progress (S.left source.old))
+        (reader_input reader.new.progress (S.left source.new)) block.new) }
     ensures runs_on { OnOk result (reader.new.stop ≡ None) }
-    ensures stop { IfErr result (StopsBehind (standing reader.old.progress (S.left source.old))
-        (standing reader.new.progress (S.left source.new)) block.new) }
+    ensures stop { IfErr result (StopsAfter (reader_input reader.old.progress (S.left source.old))
+        (reader_input reader.new.progress (S.left source.new)) block.new) }
     ensures faults { CountsFaults IsReadFault (S.faults source.old) (S.faults source.new) result }
 {
     match mode {

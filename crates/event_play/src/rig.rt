@@ -1,23 +1,23 @@
 // The machine that plays events.
 ghost use Rattle.std.specs.Prelude.{◌≡◌, None, map, IfOk, IfErr, OnOk, OnErr, Ok, Err};
 ghost use Rattle.list_dma.specs.Plans.{IsRun};
-ghost use Rattle.event_play.specs.Does.{Performs, PutsWork};
+ghost use Rattle.event_play.specs.Does.{Performs, PutsOperation};
 ghost use Rattle.event_play.specs.Replay.{next_number};
 ghost use Rattle.event_play.specs.RigState.{RigState, first_rig, Stands};
-ghost use Rattle.event_play.specs.Setting.{setting};
+ghost use Rattle.event_play.specs.PlayState.{play_state};
 ghost use Rattle.event_play.specs.Step.{Machine, event_step, tall_machine};
 ghost use Rattle.event_play.specs.Stepping.{HasStepped, numbered};
 ghost use Rattle.event_play.specs.Streams.{with_sink, without_sink};
-ghost use Rattle.event_play.specs.Work.{work_of, IsWork};
+ghost use Rattle.event_play.specs.Operation.{operation_of, IsOperation};
 
-use crate::ending::{Mode, Within};
+use crate::ending::{EventInMode, Mode};
 use crate::fault::EventFault;
 use crate::feed::feed;
-use crate::judge::judge;
+use crate::operation::Operation;
 use crate::outlet::{NoLines, Outlet};
 use crate::take::take_block;
+use crate::validate::validate;
 use crate::words::WordCursor;
-use crate::work::Work;
 use gpu_capture::Event;
 use gpu_core::Gpu;
 use gpu_taps::Listener;
@@ -85,7 +85,7 @@ impl Rig {
         ensures stepped { (s : Machine) → Stands self.old s → IfOk result (λ shown.
             HasStepped s (numbered (next_number self.old.played) event.now) shown
             (without_sink (map T.heard taps.old.items) steps.old)
-            (setting (without_sink (map T.heard taps.new.items) steps.new) self.new)) }
+            (play_state (without_sink (map T.heard taps.new.items) steps.new) self.new)) }
         ensures played { OnOk result (self.new.played ≡ next_number self.old.played) }
 
         ensures fault { (s : Machine) → Stands self.old s →
@@ -98,15 +98,15 @@ impl Rig {
             self.event_word(word, taps, steps);
             return Ok(None);
         }
-        match judge(event, &mut self.walk, &self.ram, self.running) {
-            Ok(work) => {
-                let within = Within {
+        match validate(event, &mut self.walk, &self.ram, self.running) {
+            Ok(operation) => {
+                let event_in_mode = EventInMode {
                     number: self.next_number(),
                     mode: Mode::Vram,
                 };
-                match self.perform(within, work, &mut NoLines {}, taps, steps) {
+                match self.perform(event_in_mode, operation, &mut NoLines {}, taps, steps) {
                     Ok(shown) => {
-                        self.played = within.number;
+                        self.played = event_in_mode.number;
                         Ok(shown)
                     }
                     Err(_) => unreachable!(),
@@ -117,43 +117,43 @@ impl Rig {
     }
 
     /// Returns the operation of an event, or its fault. Changes nothing.
-    pub fn asked(&mut self, event: &Event) -> Result<Work, EventFault>
-        ensures value { result ≡ work_of self.old.ram self.old.running event.now }
-        ensures bounds { IfOk result IsWork }
+    pub fn asked(&mut self, event: &Event) -> Result<Operation, EventFault>
+        ensures value { result ≡ operation_of self.old.ram self.old.running event.now }
+        ensures bounds { IfOk result IsOperation }
         ensures unchanged { self.new ≡ self.old }
     {
-        judge(event, &mut self.walk, &self.ram, self.running)
+        validate(event, &mut self.walk, &self.ram, self.running)
     }
 
     /// Performs an operation in event `within.number`, and adds the lines of its items that the mode asks for. Returns
     /// the shown word, if any. If a line cannot be written, feeds no further word, and returns the number of the first
-    /// event whose lines are incomplete. `work` must be in its bounds, as the operation of an event is.
+    /// event whose lines are incomplete. `operation` must be in its bounds, as the operation of an event is.
     pub(crate) fn perform<O: Outlet, T: Listener, L: Ledger>(
         &mut self,
-        within: Within,
-        work: Work,
+        event_in_mode: EventInMode,
+        operation: Operation,
         lines: &mut O,
         taps: &mut Vec<T>,
         steps: &mut Steps<L>,
     ) -> Result<Option<u32>, u64>
-        requires { IsWork work }
-        ensures performs { Performs within work
-            (setting (with_sink (O.state lines.old) (map T.heard taps.old.items) steps.old) self.old)
-            (setting (with_sink (O.state lines.new) (map T.heard taps.new.items) steps.new) self.new) result }
-        ensures puts { PutsWork within work
-            (setting (with_sink (O.state lines.old) (map T.heard taps.old.items) steps.old) self.old)
-            (setting (with_sink (O.state lines.new) (map T.heard taps.new.items) steps.new) self.new) result }
+        requires { IsOperation operation }
+        ensures performs { Performs event_in_mode operation
+            (play_state (with_sink (O.state lines.old) (map T.heard taps.old.items) steps.old) self.old)
+            (play_state (with_sink (O.state lines.new) (map T.heard taps.new.items) steps.new) self.new) result }
+        ensures puts { PutsOperation event_in_mode operation
+            (play_state (with_sink (O.state lines.old) (map T.heard taps.old.items) steps.old) self.old)
+            (play_state (with_sink (O.state lines.new) (map T.heard taps.new.items) steps.new) self.new) result }
         ensures same { O.same lines.old lines.new }
     {
-        match work {
-            Work::Nothing => Ok(None),
-            Work::Put { address, word } => {
+        match operation {
+            Operation::Nothing => Ok(None),
+            Operation::Put { address, word } => {
                 self.ram.put(address, word);
                 Ok(None)
             }
-            Work::Feed { words, next } => {
+            Operation::Feed { words, next } => {
                 let words = WordCursor::new(&self.ram, words);
-                match feed(&mut self.gpu, within, words, lines, taps, steps) {
+                match feed(&mut self.gpu, event_in_mode, words, lines, taps, steps) {
                     Ok(()) => {
                         self.running = next;
                         Ok(None)
@@ -161,26 +161,26 @@ impl Rig {
                     Err(lacking) => Err(lacking),
                 }
             }
-            Work::Take { block, next } => {
+            Operation::Take { block, next } => {
                 take_block(&mut self.gpu, &mut self.ram, block, steps);
                 self.running = next;
                 Ok(None)
             }
-            Work::Control { word } => {
+            Operation::Control { word } => {
                 self.gpu.gp1(word);
                 Ok(None)
             }
-            Work::Read => Ok(Some(self.gpu.read(steps))),
-            Work::Skip => {
+            Operation::Read => Ok(Some(self.gpu.read(steps))),
+            Operation::Skip => {
                 let _ = self.gpu.read(steps);
                 Ok(None)
             }
-            Work::Stat => Ok(Some(self.gpu.status())),
-            Work::Clear { madr, n } => {
+            Operation::Stat => Ok(Some(self.gpu.status())),
+            Operation::Clear { madr, n } => {
                 self.ram.clear_table(madr, n);
                 Ok(None)
             }
-            Work::Begin { next } => {
+            Operation::Begin { next } => {
                 self.running = next;
                 Ok(None)
             }

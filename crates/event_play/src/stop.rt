@@ -5,15 +5,15 @@ ghost use Rattle.gpu_capture.specs.Reader.{IsReadFault};
 ghost use Rattle.gpu_core.specs.Kept.{kept_of};
 ghost use Rattle.gpu_core.specs.Machine.{State};
 ghost use Rattle.event_play.specs.Causes.{MayReadFault, MayWriteFault, IsEnding};
-ghost use Rattle.event_play.specs.Ends.{EndsAt, EndsReading, finale};
+ghost use Rattle.event_play.specs.Ends.{EndsAt, EndsReading, final_output};
 ghost use Rattle.event_play.specs.Replay.{next_number};
-ghost use Rattle.event_play.specs.Streams.{gathering, outlets};
+ghost use Rattle.event_play.specs.Streams.{buffering, outlets};
 
-use crate::ending::{Ending, InMode, Mode, Within};
+use crate::ending::{Ending, EventInMode, InMode, Mode};
 use crate::finals::{lacks_picture, write_finals};
 use crate::rig::Rig;
 use dev_io::Sink;
-use gathered_out::Gathered;
+use gathered_out::OutputBuffer;
 use gpu_capture::Stop;
 use gpu_taps::Listener;
 use std::sync::ledger::Ledger;
@@ -24,14 +24,14 @@ impl Rig {
     pub(crate) fn end_reading<K: Sink, T: Listener, L: Ledger>(
         &self,
         stop: InMode<Stop>,
-        lines: &mut Gathered,
+        lines: &mut OutputBuffer,
         out: &mut K,
         taps: &Vec<T>,
         steps: &mut Steps<L>,
     ) -> Ending
         ensures ends { (s : State) → kept_of s ≡ self.now.gpu →
-            EndsReading (finale stop.mode s (next_number self.now.played)) stop.value
-            (gathering lines.old (outlets (K.held out.old) (K.faults out.old) (map T.heard taps.now.items) steps.old))
+            EndsReading (final_output stop.mode s (next_number self.now.played)) stop.value
+            (buffering lines.old (outlets (K.held out.old) (K.faults out.old) (map T.heard taps.now.items) steps.old))
             (outlets (K.held out.new) (K.faults out.new) (map T.heard taps.now.items) steps.new) result }
         ensures known { IsEnding result }
         ensures stopped { MayReadFault result → IsReadFault stop.value }
@@ -59,7 +59,7 @@ impl Rig {
         steps: &mut Steps<L>,
     ) -> Ending
         ensures ends { (s : State) → kept_of s ≡ self.now.gpu →
-            EndsAt (finale mode s (next_number self.now.played)) Stop.End
+            EndsAt (final_output mode s (next_number self.now.played)) Stop.End
             (outlets (K.held out.old) (K.faults out.old) (map T.heard taps.now.items) steps.old)
             (outlets (K.held out.new) (K.faults out.new) (map T.heard taps.now.items) steps.new) result }
         ensures known { IsEnding result }
@@ -71,11 +71,11 @@ impl Rig {
         if lacks_picture(&self.gpu, mode) {
             return Ending::NoPicture { event };
         }
-        let within = Within {
+        let event_in_mode = EventInMode {
             number: event,
             mode,
         };
-        match write_finals(&self.gpu, within, out, taps, steps) {
+        match write_finals(&self.gpu, event_in_mode, out, taps, steps) {
             Ok(()) => Ending::Done,
             Err(_) => Ending::WriteFailed { event },
         }

@@ -2,12 +2,12 @@
 ghost use Rattle.std.specs.Prelude.{◌≡◌, ◌≤◌, ◌^◌, ◌++◌, ◌∷◌, [], MatchOption};
 ghost use Rattle.list_dma.specs.Node.{next_of, node_words};
 ghost use Rattle.event_play.specs.Block.{block_words, IsBlock};
-ghost use Rattle.event_play.specs.Cursor.{IsNextNode, behind_words, nodes_words};
+ghost use Rattle.event_play.specs.Cursor.{IsNextNode, following_words, nodes_words};
 ghost use Rattle.event_play.specs.Step.{words_of};
-ghost use Rattle.event_play.specs.Work.{AreWords};
+ghost use Rattle.event_play.specs.Operation.{AreWords};
 
 use crate::block::{Block, address_in};
-use crate::work::Words;
+use crate::operation::Words;
 use list_dma::{WALK_LIMIT, node_at};
 use ot_clear_dma::Ram;
 use std::marker::Model;
@@ -19,7 +19,7 @@ pub struct WordCursor<'a> {
     ram: &'a Ram,
     block: Block,
     at: u32,
-    behind: Behind,
+    following: Following,
 }
 
 impl<'a> Model for WordCursor<'a> {
@@ -29,14 +29,14 @@ impl<'a> Model for WordCursor<'a> {
 
     ghost Value = { List ℕ };
 
-    ghost view = { λ c. words_left c.ram.now c.block c.at c.behind };
+    ghost view = { λ c. words_left c.ram.now c.block c.at c.following };
 
     ghost invariant = { λ c. IsBlock c.block × (c.at ≤ c.block.n) };
 }
 
 // What follows a block.
 #[derive(Clone, Copy)]
-enum Behind {
+enum Following {
     Nothing,
     /// A word that the CPU writes.
     Word { word: u32 },
@@ -55,7 +55,7 @@ struct NodeList {
 #[derive(Clone, Copy)]
 struct Node {
     words: Block,
-    behind: Behind,
+    following: Following,
 }
 
 // The empty block.
@@ -74,29 +74,29 @@ impl<'a> WordCursor<'a> {
         ensures { result ≡ words_of ram.now words }
     {
         match words {
-            Words::One { word } => WordCursor::of(ram, NO_BLOCK, Behind::Word { word }),
-            Words::Block { block } => WordCursor::of(ram, block, Behind::Nothing),
-            Words::Node { node } => WordCursor::of(ram, block_at(ram, node), Behind::Nothing),
+            Words::One { word } => WordCursor::of(ram, NO_BLOCK, Following::Word { word }),
+            Words::Block { block } => WordCursor::of(ram, block, Following::Nothing),
+            Words::Node { node } => WordCursor::of(ram, block_at(ram, node), Following::Nothing),
             Words::List { start } => {
                 let list = NodeList {
                     start,
                     limit: WALK_LIMIT,
                 };
-                WordCursor::of(ram, NO_BLOCK, Behind::Nodes { list })
+                WordCursor::of(ram, NO_BLOCK, Following::Nodes { list })
             }
         }
     }
 
     // Returns a cursor over a block and what follows it.
-    fn of(ram: &'a Ram, block: Block, behind: Behind) -> WordCursor<'a>
+    fn of(ram: &'a Ram, block: Block, following: Following) -> WordCursor<'a>
         requires { IsBlock block }
-        ensures { result ≡ block_words ram.now block ++ behind_words ram.now behind }
+        ensures { result ≡ block_words ram.now block ++ following_words ram.now following }
     {
         WordCursor {
             ram,
             block,
             at: 0,
-            behind,
+            following,
         }
     }
 
@@ -110,18 +110,18 @@ impl<'a> WordCursor<'a> {
             self.at += 1;
             return Some(word);
         }
-        match self.behind {
-            Behind::Nothing => None,
-            Behind::Word { word } => {
-                self.behind = Behind::Nothing;
+        match self.following {
+            Following::Nothing => None,
+            Following::Word { word } => {
+                self.following = Following::Nothing;
                 Some(word)
             }
-            Behind::Nodes { list } => match next_node(self.ram, list) {
+            Following::Nodes { list } => match next_node(self.ram, list) {
                 None => None,
                 Some(node) => {
                     self.block = node.words;
                     self.at = 1;
-                    self.behind = node.behind;
+                    self.following = node.following;
                     Some(self.ram.get(address_in(node.words, 0)))
                 }
             },
@@ -162,10 +162,10 @@ fn next_node(ram: &Ram, list: NodeList) -> Option<Node>
                 start = next_address(ram, node);
                 if 0 < words.n {
                     let limit = list.limit - (k + 1);
-                    let behind = Behind::Nodes {
+                    let following = Following::Nodes {
                         list: NodeList { start, limit },
                     };
-                    return Some(Node { words, behind });
+                    return Some(Node { words, following });
                 }
             }
         }

@@ -83,10 +83,10 @@ breaks_later e extents bytes before now number later =
       stands = subst P (appended-appended before (take e.len bytes) (bytes_of later.whole)) later.stands;
     }
 
-taken_behind : (e : Extent) (bytes : List ℕ) (taken : ℕ) (before now : Option (List ℕ)) → e.len ≤ taken
+taken_after : (e : Extent) (bytes : List ℕ) (taken : ℕ) (before now : Option (List ℕ)) → e.len ≤ taken
     → now ≡ appended before (take taken bytes)
     → now ≡ appended (appended before (take e.len bytes)) (take (taken - e.len) (drop e.len bytes))
-taken_behind e bytes taken before now le took =
+taken_after e bytes taken before now le took =
     let all : e.len + (taken - e.len) ≡ taken = omega (arith, le) in
     took ∙ ap (λ n. appended before (take n bytes)) (sym all) ∙ sym (appended-more before bytes e.len (taken - e.len))
 
@@ -104,7 +104,7 @@ breaks_by e extents bytes taken before now false test is lt took later =
     let le = ltb-false taken e.len test in
     let long = length-drop e.len bytes in
     breaks_later e extents bytes before now (lacking extents (taken - e.len))
-    (later (omega (arith, is, long)) (omega (arith, lt, long, le, is)) (taken_behind e bytes taken before now le took))
+    (later (omega (arith, is, long)) (omega (arith, lt, long, le, is)) (taken_after e bytes taken before now le took))
 
 pub breaks_off : (extents : List Extent) (bytes : List ℕ) (taken : ℕ) (before now : Option (List ℕ))
     → total extents ≡ length bytes
@@ -124,38 +124,38 @@ bytes_append (x ∷ xs) ys =
     ap (λ bs. x.bytes ++ bs) (bytes_append xs ys) ∙ sym (append_assoc x.bytes (bytes_of xs) (bytes_of ys))
 
 -- the buffered pieces follow the content of the sink
-pub only_gathered : (held : Option (List ℕ)) (gathered : List Piece) → AreOut held gathered held gathered
-only_gathered held gathered = record { written = []; are = refl; stands = sym (appended-nil held) }
+pub only_buffered : (held : Option (List ℕ)) (buffered : List Piece) → AreOut held buffered held buffered
+only_buffered held buffered = record { written = []; are = refl; stands = sym (appended-nil held) }
 
 -- once the buffered pieces are written, all are
-pub all_out : (before held now : Option (List ℕ)) (pieces gathered : List Piece) → AreOut before pieces held gathered
-    → now ≡ appended held (bytes_of gathered) → now ≡ appended before (bytes_of pieces)
-all_out before held now pieces gathered out took =
-    took ∙ ap (λ h. appended h (bytes_of gathered)) out.stands
-    ∙ appended-appended before (bytes_of out.written) (bytes_of gathered)
-    ∙ ap (appended before) (sym (bytes_append out.written gathered) ∙ ap bytes_of (sym out.are))
+pub all_out : (before held now : Option (List ℕ)) (pieces buffered : List Piece) → AreOut before pieces held buffered
+    → now ≡ appended held (bytes_of buffered) → now ≡ appended before (bytes_of pieces)
+all_out before held now pieces buffered out took =
+    took ∙ ap (λ h. appended h (bytes_of buffered)) out.stands
+    ∙ appended-appended before (bytes_of out.written) (bytes_of buffered)
+    ∙ ap (appended before) (sym (bytes_append out.written buffered) ∙ ap bytes_of (sym out.are))
 
 -- the buffer is empty then
-pub none_gathered : (before now : Option (List ℕ)) (pieces : List Piece) → now ≡ appended before (bytes_of pieces)
+pub none_buffered : (before now : Option (List ℕ)) (pieces : List Piece) → now ≡ appended before (bytes_of pieces)
     → AreOut before pieces now []
-none_gathered before now pieces stands = record {
+none_buffered before now pieces stands = record {
   written = pieces;
   are = sym (append-nil pieces);
   stands = stands;
 }
 
-pub one_gathered : (before held : Option (List ℕ)) (pieces gathered : List Piece) (p : Piece)
-    → AreOut before pieces held gathered → AreOut before (pieces ++ p ∷ []) held (gathered ++ p ∷ [])
-one_gathered before held pieces gathered p out = record {
+pub one_buffered : (before held : Option (List ℕ)) (pieces buffered : List Piece) (p : Piece)
+    → AreOut before pieces held buffered → AreOut before (pieces ++ p ∷ []) held (buffered ++ p ∷ [])
+one_buffered before held pieces buffered p out = record {
   written = out.written;
-  are = ap (λ (ps : List Piece). ps ++ p ∷ []) out.are ∙ append_assoc out.written gathered (p ∷ []);
+  are = ap (λ (ps : List Piece). ps ++ p ∷ []) out.are ∙ append_assoc out.written buffered (p ∷ []);
   stands = out.stands;
 }
 
 -- if writing the buffered pieces fails, so does writing all
-pub breaks_all : (before held now : Option (List ℕ)) (pieces gathered : List Piece) (number : ℕ)
-    → AreOut before pieces held gathered → BreaksOff gathered held now number → BreaksOff pieces before now number
-breaks_all before held now pieces gathered number out off =
+pub breaks_all : (before held now : Option (List ℕ)) (pieces buffered : List Piece) (number : ℕ)
+    → AreOut before pieces held buffered → BreaksOff buffered held now number → BreaksOff pieces before now number
+breaks_all before held now pieces buffered number out off =
     let P : Option (List ℕ) → Type 0 = λ h. AppendsPart h now off.broken.bytes in
     let whole = out.written ++ off.whole in
     record {

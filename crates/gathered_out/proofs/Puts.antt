@@ -23,9 +23,9 @@ are_both number xs ys ps qs first last = record {
   bytes_are = bytes_append ps qs ∙ ap (λ bs. bs ++ bytes_of qs) first.bytes_are ∙ ap (λ bs. xs ++ bs) last.bytes_are;
 }
 
-out_same : (base held : Option (List ℕ)) (ps qs gathered : List Piece) → ps ≡ qs → AreOut base ps held gathered
-    → AreOut base qs held gathered
-out_same base held ps qs gathered same out = rw (← same) out
+out_same : (base held : Option (List ℕ)) (ps qs buffered : List Piece) → ps ≡ qs → AreOut base ps held buffered
+    → AreOut base qs held buffered
+out_same base held ps qs buffered same out = rw (← same) out
 
 off_same : (base now : Option (List ℕ)) (ps qs : List Piece) (lacking : ℕ) → ps ≡ qs → BreaksOff ps base now lacking
     → BreaksOff qs base now lacking
@@ -34,9 +34,9 @@ off_same base now ps qs lacking same off = rw (← same) off
 -- ---- one piece
 
 pub put_one : {Value : Type 0} (number : ℕ) (bytes : List ℕ) (before now : SinkState) (result : Result Value ℕ)
-    → ((base : Option (List ℕ)) (pieces : List Piece) → AreOut base pieces before.held before.gathered
-    → OnOk result (AreOut base (pieces ++ piece number bytes ∷ []) now.held now.gathered))
-    → ((base : Option (List ℕ)) (pieces : List Piece) → AreOut base pieces before.held before.gathered
+    → ((base : Option (List ℕ)) (pieces : List Piece) → AreOut base pieces before.held before.buffered
+    → OnOk result (AreOut base (pieces ++ piece number bytes ∷ []) now.held now.buffered))
+    → ((base : Option (List ℕ)) (pieces : List Piece) → AreOut base pieces before.held before.buffered
     → IfErr result (BreaksOff pieces base now.held))
     → OnErr result (Rose before.faults now.faults) → before.faults ≤ now.faults
     → Puts (piece number bytes) before now result
@@ -62,7 +62,7 @@ put_one number bytes before now (Err e) ok failed cause faults = record {
 
 -- this output was put between the states `before` and `now` of a sink and its buffer
 pub record HasPut (due : Piece) (before now : SinkState) : Type 0 where
-  pub put : IsPut due (holding before.held before.gathered) (holding now.held now.gathered)
+  pub put : IsPut due (holding before.held before.buffered) (holding now.held now.buffered)
   pub faults : before.faults ≤ now.faults
 
 pub put_none : (number : ℕ) (at : SinkState) → HasPut (piece number []) at at
@@ -70,7 +70,7 @@ put_none number at = record {
   put = record {
     parts = [];
     are = record { numbers = tt; bytes_are = refl };
-    out = λ base pieces out. out_same base at.held pieces (pieces ++ []) at.gathered (sym (append-nil pieces)) out;
+    out = λ base pieces out. out_same base at.held pieces (pieces ++ []) at.buffered (sym (append-nil pieces)) out;
   };
   faults = omega arith;
 }
@@ -80,14 +80,14 @@ pub put_on : {Value : Type 0} (number : ℕ) (before mid now : SinkState) (xs ys
     → HasPut (piece number xs) before mid → Puts {Value = Value} (piece number ys) mid now (Ok v)
     → HasPut (piece number (xs ++ ys)) before now
 put_on number before mid now xs ys v first next =
-    let last : IsPut (piece number ys) (holding mid.held mid.gathered) (holding now.held now.gathered) = next.ok in
+    let last : IsPut (piece number ys) (holding mid.held mid.buffered) (holding now.held now.buffered) = next.ok in
     record {
       put = record {
         parts = first.put.parts ++ last.parts;
         are = are_both number xs ys first.put.parts last.parts first.put.are last.are;
         out = λ base pieces out.
             out_same base now.held ((pieces ++ first.put.parts) ++ last.parts)
-            (pieces ++ (first.put.parts ++ last.parts)) now.gathered
+            (pieces ++ (first.put.parts ++ last.parts)) now.buffered
             (append_assoc pieces first.put.parts last.parts)
             (last.out base (pieces ++ first.put.parts) (first.put.out base pieces out));
       };
@@ -100,7 +100,7 @@ pub put_fails : {Value Other : Type 0} (number : ℕ) (before mid now : SinkStat
     → Puts {Value = Other} (piece number (xs ++ (ys ++ zs))) before now (Err e)
 put_fails number before mid now xs ys zs e first next =
     let rest : List Piece = piece number zs ∷ [] in
-    let last : BreaksPut (piece number ys) (holding mid.held mid.gathered) now.held e = next.failed in
+    let last : BreaksPut (piece number ys) (holding mid.held mid.buffered) now.held e = next.failed in
     record {
       ok = tt;
       failed = record {

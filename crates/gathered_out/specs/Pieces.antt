@@ -16,10 +16,10 @@ bytes_of [] = []
 bytes_of (p ∷ pieces) = p.bytes ++ bytes_of pieces
 
 -- All pieces were written to a sink after its content `before`, except the last ones, which are buffered.
-pub record AreOut (before : Option (List ℕ)) (pieces : List Piece) (held : Option (List ℕ)) (gathered : List Piece)
+pub record AreOut (before : Option (List ℕ)) (pieces : List Piece) (held : Option (List ℕ)) (buffered : List Piece)
     : Type 0 where
   pub written : List Piece
-  pub are : pieces ≡ written ++ gathered
+  pub are : pieces ≡ written ++ buffered
   pub stands : held ≡ appended before (bytes_of written)
 
 -- Writing failed in the piece of event `number`. The pieces before it are written, and a proper part of it.

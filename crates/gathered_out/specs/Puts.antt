@@ -15,39 +15,39 @@ pub record ArePieces (number : ℕ) (bytes : List ℕ) (pieces : List Piece) : T
 -- the content of a sink (None if unknown), and the buffered pieces for it
 pub record Holding : Type 0 where
   pub held : Option (List ℕ)
-  pub gathered : List Piece
+  pub buffered : List Piece
 
 abbrev pub holding : Option (List ℕ) → List Piece → Holding
-holding held gathered = record { held = held; gathered = gathered }
+holding held buffered = record { held = held; buffered = buffered }
 
 -- The output `due` of an event was put: after all earlier pieces, it is written or buffered.
 pub record IsPut (due : Piece) (before now : Holding) : Type 0 where
   pub parts : List Piece
   pub are : ArePieces due.number due.bytes parts
-  pub out : (base : Option (List ℕ)) (pieces : List Piece) → AreOut base pieces before.held before.gathered
-      → AreOut base (pieces ++ parts) now.held now.gathered
+  pub out : (base : Option (List ℕ)) (pieces : List Piece) → AreOut base pieces before.held before.buffered
+      → AreOut base (pieces ++ parts) now.held now.buffered
 
 -- The output could not be put: writing failed within it or within the pieces before it.
 pub record BreaksPut (due : Piece) (before : Holding) (now : Option (List ℕ)) (lacking : ℕ) : Type 0 where
   pub parts : List Piece
   pub are : ArePieces due.number due.bytes parts
-  pub off : (base : Option (List ℕ)) (pieces : List Piece) → AreOut base pieces before.held before.gathered
+  pub off : (base : Option (List ℕ)) (pieces : List Piece) → AreOut base pieces before.held before.buffered
       → BreaksOff (pieces ++ parts) base now lacking
 
 -- a sink, and the buffered pieces for it
 pub record SinkState : Type 0 where
   pub held : Option (List ℕ)
   pub faults : ℕ
-  pub gathered : List Piece
+  pub buffered : List Piece
 
 abbrev pub sink_state : {Sink : Type 0} → (held : Sink → Option (List ℕ)) → (faults : Sink → ℕ) → Sink → List Piece
     → SinkState
-sink_state held faults sink gathered = record { held = held sink; faults = faults sink; gathered = gathered }
+sink_state held faults sink buffered = record { held = held sink; faults = faults sink; buffered = buffered }
 
 -- The effect of a call that puts the output `due` of an event. On failure the sink's count of faults is larger.
 pub record Puts {Value : Type 0} (due : Piece) (before now : SinkState) (result : Result Value ℕ) : Type 0 where
-  pub ok : OnOk result (IsPut due (holding before.held before.gathered) (holding now.held now.gathered))
-  pub failed : IfErr result (BreaksPut due (holding before.held before.gathered) now.held)
+  pub ok : OnOk result (IsPut due (holding before.held before.buffered) (holding now.held now.buffered))
+  pub failed : IfErr result (BreaksPut due (holding before.held before.buffered) now.held)
   pub cause : OnErr result (Rose before.faults now.faults)
   pub faults : before.faults ≤ now.faults
 

@@ -6,6 +6,6 @@
 
 mod counted;
 mod extent;
-mod gathered;
+mod output_buffer;
 
-pub use gathered::Gathered;
+pub use output_buffer::OutputBuffer;

@@ -10,8 +10,8 @@ use Rattle.gpu_capture.specs.declared.event.Event.{Event}
 use Rattle.gpu_capture.specs.declared.event.Event.TheVariants as event
 use Rattle.gpu_capture.specs.declared.event.Stop.{Stop}
 use Rattle.gpu_capture.specs.declared.event.Stop.TheVariants.{End, BadRecord}
-use Rattle.gpu_capture.specs.declared.record.Due.{Due}
-use Rattle.gpu_capture.specs.declared.record.Due.TheVariants as due
+use Rattle.gpu_capture.specs.declared.record.Expected.{Expected}
+use Rattle.gpu_capture.specs.declared.record.Expected.TheVariants as expected
 use Rattle.gpu_capture.specs.declared.record.Start.{Start}
 use Rattle.gpu_capture.specs.declared.record.Start.TheVariants as start
 use Rattle.gpu_capture.specs.declared.record.Step.{Step}
@@ -36,30 +36,31 @@ skip_known : (version kind count : ℕ) → (kind == 9 && (nat_le 2 version && i
 skip_known version kind count is = grind (arith, nat_tests, is)
 
 -- by the tests of a tag, in order
-by_tests : (version place tag count : ℕ) (a b c d e f g h i j : Bool) → (j ≡ true → 2 ≤ version)
-    → GivesKnown version (cond a (Closes End) (cond b (Opens (due.Address count)) (cond c (Opens (due.Gp0 count))
-    (cond d (Opens due.Gp1) (cond e (Gives event.Read count due.Tag) (cond f (Gives event.Stat 1 due.Tag)
-    (cond g (Opens (due.Madr (start.Dma count))) (cond h (Opens (due.Madr start.Begin))
-    (cond i (Gives event.Turn count due.Tag) (cond j (Gives event.Skip count due.Tag)
-    (Closes (BadRecord place tag))))))))))))
-by_tests version place tag count true b c d e f g h i j skip = tt
-by_tests version place tag count false true c d e f g h i j skip = tt
-by_tests version place tag count false false true d e f g h i j skip = tt
-by_tests version place tag count false false false true e f g h i j skip = tt
-by_tests version place tag count false false false false true f g h i j skip = tt
-by_tests version place tag count false false false false false true g h i j skip = tt
-by_tests version place tag count false false false false false false true h i j skip = tt
-by_tests version place tag count false false false false false false false true i j skip = tt
-by_tests version place tag count false false false false false false false false true j skip = tt
-by_tests version place tag count false false false false false false false false false true skip = skip refl
-by_tests version place tag count false false false false false false false false false false skip = tt
+by_tests : (version offset tag count : ℕ) (a b c d e f g h i j : Bool) → (j ≡ true → 2 ≤ version)
+    → GivesKnown version (cond a (Closes End)
+    (cond b (Opens (expected.Address count)) (cond c (Opens (expected.Gp0 count))
+    (cond d (Opens expected.Gp1) (cond e (Gives event.Read count expected.Tag) (cond f (Gives event.Stat 1 expected.Tag)
+    (cond g (Opens (expected.Madr (start.Dma count))) (cond h (Opens (expected.Madr start.Begin))
+    (cond i (Gives event.Turn count expected.Tag) (cond j (Gives event.Skip count expected.Tag)
+    (Closes (BadRecord offset tag))))))))))))
+by_tests version offset tag count true b c d e f g h i j skip = tt
+by_tests version offset tag count false true c d e f g h i j skip = tt
+by_tests version offset tag count false false true d e f g h i j skip = tt
+by_tests version offset tag count false false false true e f g h i j skip = tt
+by_tests version offset tag count false false false false true f g h i j skip = tt
+by_tests version offset tag count false false false false false true g h i j skip = tt
+by_tests version offset tag count false false false false false false true h i j skip = tt
+by_tests version offset tag count false false false false false false false true i j skip = tt
+by_tests version offset tag count false false false false false false false false true j skip = tt
+by_tests version offset tag count false false false false false false false false false true skip = skip refl
+by_tests version offset tag count false false false false false false false false false false skip = tt
 
-tag_known : (version place tag : ℕ) → GivesKnown version (tag_step version place tag)
-tag_known version place tag =
-    by_tests version place tag (count_of tag) _ _ _ _ _ _ _ _ _ _ (skip_known version (kind_of tag) (count_of tag))
+tag_known : (version offset tag : ℕ) → GivesKnown version (tag_step version offset tag)
+tag_known version offset tag =
+    by_tests version offset tag (count_of tag) _ _ _ _ _ _ _ _ _ _ (skip_known version (kind_of tag) (count_of tag))
 
 -- an address gives no event
-opened_known : (version : ℕ) (b : Bool) (next : Due) (stop : Stop)
+opened_known : (version : ℕ) (b : Bool) (next : Expected) (stop : Stop)
     → GivesKnown version (cond b (Opens next) (Closes stop))
 opened_known version true next stop = tt
 opened_known version false next stop = tt
@@ -68,15 +69,16 @@ by_start : (version : ℕ) (by : Start) (madr bcr chcr : ℕ) → IsKnown versio
 by_start version (start.Dma channel) madr bcr chcr = tt
 by_start version start.Begin madr bcr chcr = tt
 
-step_known : (version : ℕ) (at : Due) (place word : ℕ) → GivesKnown version (word_step version at place word)
-step_known version due.Tag place word = tag_known version place word
-step_known version (due.Address count) place word = opened_known version _ (due.Ram word count) (BadRecord place word)
-step_known version (due.Ram address left) place word = tt
-step_known version (due.Gp0 left) place word = tt
-step_known version due.Gp1 place word = tt
-step_known version (due.Madr by) place word = tt
-step_known version (due.Bcr by madr) place word = tt
-step_known version (due.Chcr by madr bcr) place word = by_start version by madr bcr word
+step_known : (version : ℕ) (at : Expected) (offset word : ℕ) → GivesKnown version (word_step version at offset word)
+step_known version expected.Tag offset word = tag_known version offset word
+step_known version (expected.Address count) offset word =
+    opened_known version _ (expected.Ram word count) (BadRecord offset word)
+step_known version (expected.Ram address left) offset word = tt
+step_known version (expected.Gp0 left) offset word = tt
+step_known version expected.Gp1 offset word = tt
+step_known version (expected.Madr by) offset word = tt
+step_known version (expected.Bcr by madr) offset word = tt
+step_known version (expected.Chcr by madr bcr) offset word = by_start version by madr bcr word
 
 -- ---- all bytes
 
@@ -89,35 +91,36 @@ known_repeated : (version : ℕ) (e : Event) (n : ℕ) → IsKnown version e →
 known_repeated version e zero known = tt
 known_repeated version e (suc n) known = (known, known_repeated version e n known)
 
-behind_known : (version : ℕ) (step : Step) (on : Due → Captured) (bytes : List ℕ) → GivesKnown version step
-    → ((next : Due) → AreKnown version (on next).events) → AreKnown version (after_step version step on bytes).events
-behind_known version (Opens next) on bytes known later = later next
-behind_known version (Gives e count next) on bytes known later =
+after_known : (version : ℕ) (step : Step) (on : Expected → Captured) (bytes : List ℕ) → GivesKnown version step
+    → ((next : Expected) → AreKnown version (on next).events)
+    → AreKnown version (after_step version step on bytes).events
+after_known version (Opens next) on bytes known later = later next
+after_known version (Gives e count next) on bytes known later =
     known_append version (replicate count e) (on next).events (known_repeated version e count known) (later next)
-behind_known version (Closes stop) on bytes known later = tt
+after_known version (Closes stop) on bytes known later = tt
 
-records_known : (bytes : List ℕ) (version : ℕ) (at : Due) (place : ℕ)
-    → AreKnown version (records version at place bytes).events
-records_known [] version at place = elim (cases_Bool (nat_lt place limit)) [ inl is ↦ rw is tt | inr is ↦ rw is tt ]
-records_known (a ∷ []) version at place = elim
-    (cases_Bool (nat_lt place limit)) [ inl is ↦ rw is tt | inr is ↦ rw is tt ]
-records_known (a ∷ b ∷ []) version at place = elim
-    (cases_Bool (nat_lt place limit)) [ inl is ↦ rw is tt | inr is ↦ rw is tt ]
-records_known (a ∷ b ∷ c ∷ []) version at place = elim
-    (cases_Bool (nat_lt place limit)) [ inl is ↦ rw is tt | inr is ↦ rw is tt ]
-records_known (a ∷ b ∷ c ∷ d ∷ bytes) version at place =
-    elim (cases_Bool (nat_lt place limit)) [
-      | inl is ↦ rw is (behind_known version _ (λ next. records version next (place + 4) bytes) bytes
-          (step_known version at place _) (λ next. records_known bytes version next (place + 4)))
+records_known : (bytes : List ℕ) (version : ℕ) (at : Expected) (offset : ℕ)
+    → AreKnown version (records version at offset bytes).events
+records_known [] version at offset = elim (cases_Bool (nat_lt offset limit)) [ inl is ↦ rw is tt | inr is ↦ rw is tt ]
+records_known (a ∷ []) version at offset = elim
+    (cases_Bool (nat_lt offset limit)) [ inl is ↦ rw is tt | inr is ↦ rw is tt ]
+records_known (a ∷ b ∷ []) version at offset = elim
+    (cases_Bool (nat_lt offset limit)) [ inl is ↦ rw is tt | inr is ↦ rw is tt ]
+records_known (a ∷ b ∷ c ∷ []) version at offset = elim
+    (cases_Bool (nat_lt offset limit)) [ inl is ↦ rw is tt | inr is ↦ rw is tt ]
+records_known (a ∷ b ∷ c ∷ d ∷ bytes) version at offset =
+    elim (cases_Bool (nat_lt offset limit)) [
+      | inl is ↦ rw is (after_known version _ (λ next. records version next (offset + 4) bytes) bytes
+          (step_known version at offset _) (λ next. records_known bytes version next (offset + 4)))
       | inr is ↦ rw is tt
     ]
 
 by_head : (version : Result ℕ ℕ) (bytes : List ℕ)
     → AreKnown (opened version bytes).version (opened version bytes).events
 by_head (Ok version) bytes =
-    let P : ℕ → Type 0 = λ v. AreKnown v (records version due.Tag 8 bytes).events in
-    subst P (sym (records_version bytes version due.Tag 8)) (records_known bytes version due.Tag 8)
-by_head (Err place) bytes = tt
+    let P : ℕ → Type 0 = λ v. AreKnown v (records version expected.Tag 8 bytes).events in
+    subst P (sym (records_version bytes version expected.Tag 8)) (records_known bytes version expected.Tag 8)
+by_head (Err offset) bytes = tt
 
 -- the same for all events of any bytes
 pub capture_known : (bytes : List ℕ) → AreKnown (capture bytes).version (capture bytes).events

@@ -3,7 +3,7 @@ use Rattle.std.proofs.Common.{◌≡◌, ◌≤◌, inl, inr, ◌++◌, ℕ, Lis
 use Rattle.std.proofs.Common.{refl, ap, sym, ◌∙◌, append_assoc, append-nil}
 use Rattle.gpu_capture.specs.Capture.{Captured, capture, ended, then_events}
 use Rattle.gpu_capture.specs.Reader.{AreNeeded as ReaderNeeds, SaysStop as ReaderSays, StopsAt, Takes, capture_from}
-use Rattle.gpu_capture.specs.Reader.{standing}
+use Rattle.gpu_capture.specs.Reader.{reader_input}
 use Rattle.gpu_capture.specs.Reading.{AreNeeded, AreNeededToEnd, Said, SaysStop}
 use Rattle.gpu_capture.specs.declared.event.Event.{Event}
 use Rattle.gpu_capture.specs.declared.event.Stop.{Stop}
@@ -26,8 +26,8 @@ pub needed_on : (old : Progress) (events : List Event) (given : Event) (xs ys : 
     → AreNeeded capture events xs → ReaderNeeds old ys → AreNeeded capture (events ++ given ∷ []) (xs ++ ys)
 needed_on old events given xs ys reached was next part more is some =
     elim (split xs ys part more is) [
-      | inl behind ↦
-          let short = next behind.0 more behind.2 some in (
+      | inl after ↦
+          let short = next after.0 more after.2 some in (
             given,
             [],
             record {
@@ -35,7 +35,7 @@ needed_on old events given xs ys reached was next part more is some =
               byte = short.byte;
               fewer = events;
               are = refl;
-              is = ap capture behind.1 ∙ reached behind.0 ∙ ap (then_events events) short.is
+              is = ap capture after.1 ∙ reached after.0 ∙ ap (then_events events) short.is
                   ∙ ap (λ (all : List Event). record {
                     version = short.version;
                     events = all;
@@ -66,15 +66,15 @@ pub needed_end : (old : Progress) (events : List Event) (xs ys : List ℕ)
     → AreNeeded capture events xs → ReaderNeeds old ys → AreNeededToEnd capture events (xs ++ ys)
 needed_end old events xs ys reached was next part more is some =
     elim (split xs ys part more is) [
-      | inl behind ↦
-          let short = next behind.0 more behind.2 some in (
+      | inl after ↦
+          let short = next after.0 more after.2 some in (
             [],
             record {
               version = short.version;
               byte = short.byte;
               fewer = events;
               are = sym (append-nil events);
-              is = ap capture behind.1 ∙ reached behind.0 ∙ ap (then_events events) short.is
+              is = ap capture after.1 ∙ reached after.0 ∙ ap (then_events events) short.is
                   ∙ ap (λ (all : List Event). record {
                     version = short.version;
                     events = all;
@@ -143,7 +143,7 @@ stop_says old said taken xs ys left (ReadFault byte) are reached says = rw are
 -- ---- versions
 
 pub takes_version : (old new : Progress) (before now : Option (List ℕ)) (events : List Event)
-    → Takes (standing old before) (standing new now) events
+    → Takes (reader_input old before) (reader_input new now) events
     → 1 ≤ old.version → 1 ≤ new.version → old.version ≡ new.version
 takes_version old new before now events takes was is =
     sym (version_from old (takes.taken ++ []) was) ∙ ap (λ (c : Captured). c.version) (takes.says [])
@@ -169,12 +169,13 @@ stops_version old version (ReadFault byte) taken now says was = sym (version_fro
 
 -- what one call of `advance` ensures, from one reader state to the next
 abbrev pub Answers : (old new : Progress) (before now : Option (List ℕ)) → Result Event Stop → Type 0
-Answers old new before now (Ok event) = Takes (standing old before) (standing new now) (event ∷ []) × (1 ≤ new.version)
-Answers old new before now (Err stop) = StopsAt (standing old before) (standing new now) stop
+Answers old new before now (Ok event) =
+    Takes (reader_input old before) (reader_input new now) (event ∷ []) × (1 ≤ new.version)
+Answers old new before now (Err stop) = StopsAt (reader_input old before) (reader_input new now) stop
 
 pub answers : (old new : Progress) (before now : Option (List ℕ)) (next : Result Event Stop)
-    → IfOk next (λ event. Takes (standing old before) (standing new now) (event ∷ []))
-    → OnOk next (1 ≤ new.version) → IfErr next (λ stop. StopsAt (standing old before) (standing new now) stop)
+    → IfOk next (λ event. Takes (reader_input old before) (reader_input new now) (event ∷ []))
+    → OnOk next (1 ≤ new.version) → IfErr next (λ stop. StopsAt (reader_input old before) (reader_input new now) stop)
     → Answers old new before now next
 answers old new before now (Ok event) takes known stops = (takes, known)
 answers old new before now (Err stop) takes known stops = stops

@@ -6,8 +6,8 @@ use Rattle.byteorder.specs.Endian.{little_number}
 use Rattle.gpu_capture.specs.declared.event.Event.{Event}
 use Rattle.gpu_capture.specs.declared.event.Stop.{Stop}
 use Rattle.gpu_capture.specs.declared.event.Stop.TheVariants.{NotCapture, Truncated, TooLong}
-use Rattle.gpu_capture.specs.declared.record.Due.{Due}
-use Rattle.gpu_capture.specs.declared.record.Due.TheVariants.{Tag}
+use Rattle.gpu_capture.specs.declared.record.Expected.{Expected}
+use Rattle.gpu_capture.specs.declared.record.Expected.TheVariants.{Tag}
 use Rattle.gpu_capture.specs.declared.record.Step.{Step}
 use Rattle.gpu_capture.specs.declared.record.Step.TheVariants.{Opens, Gives, Closes}
 use Rattle.gpu_capture.specs.Head.{head_among}
@@ -32,21 +32,21 @@ abbrev pub limit : ℕ
 limit = 2 ^ 30
 
 -- the meaning of a step and of the bytes after its word
-abbrev pub after_step : ℕ → Step → (Due → Captured) → List ℕ → Captured
+abbrev pub after_step : ℕ → Step → (Expected → Captured) → List ℕ → Captured
 after_step version (Opens next) on bytes = on next
 after_step version (Gives event count next) on bytes = then_events (replicate count event) (on next)
 after_step version (Closes stop) on bytes = ended version stop bytes
 
--- The meaning of the bytes from offset `place` on, if `at` is what the next word is. At the limit the capture is too
+-- The meaning of the bytes from offset `offset` on, if `at` is what the next word is. At the limit the capture is too
 -- long, even if no bytes are left. Before it, fewer than four bytes are truncated at their end.
-abbrev pub records : ℕ → Due → ℕ → List ℕ → Captured
-records version at place (a ∷ b ∷ c ∷ d ∷ bytes) =
-    if nat_lt place limit
-    then after_step version (word_step version at place (little_number 4 (a ∷ b ∷ c ∷ d ∷ [])))
-    (λ next. records version next (place + 4) bytes) bytes
+abbrev pub records : ℕ → Expected → ℕ → List ℕ → Captured
+records version at offset (a ∷ b ∷ c ∷ d ∷ bytes) =
+    if nat_lt offset limit
+    then after_step version (word_step version at offset (little_number 4 (a ∷ b ∷ c ∷ d ∷ [])))
+    (λ next. records version next (offset + 4) bytes) bytes
     else ended version (TooLong limit) (a ∷ b ∷ c ∷ d ∷ bytes)
-records version at place bytes =
-    if nat_lt place limit then ended version (Truncated (place + length bytes)) []
+records version at offset bytes =
+    if nat_lt offset limit then ended version (Truncated (offset + length bytes)) []
     else ended version (TooLong limit) bytes
 
 -- ---- the header
@@ -70,7 +70,7 @@ heads = head_of 1 ∷ head_of 2 ∷ head_of 3 ∷ []
 -- versions are numbered from 1, heads from 0
 abbrev pub numbered_version : Result ℕ ℕ → Result ℕ ℕ
 numbered_version (Ok number) = Ok (number + 1)
-numbered_version (Err place) = Err place
+numbered_version (Err offset) = Err offset
 
 -- the version of a file header, or the first offset at which the bytes differ from every header
 abbrev pub head_version : List ℕ → Result ℕ ℕ
@@ -78,7 +78,7 @@ head_version bytes = numbered_version (head_among heads bytes)
 
 abbrev pub opened : Result ℕ ℕ → List ℕ → Captured
 opened (Ok version) bytes = records version Tag 8 bytes
-opened (Err place) bytes = ended 0 (NotCapture place) bytes
+opened (Err offset) bytes = ended 0 (NotCapture offset) bytes
 
 -- The meaning of a whole capture. Fewer than 8 bytes are truncated, even if they differ from every header.
 abbrev pub capture : List ℕ → Captured

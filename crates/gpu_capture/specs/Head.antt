@@ -9,22 +9,22 @@ abbrev pub first_difference : (head bytes : List ℕ) → Option ℕ
 first_difference head bytes = position (λ pair. not (pair.0 == pair.1)) (zip head bytes)
 
 -- the length of their common prefix
-abbrev pub place_of_difference : (head bytes : List ℕ) → ℕ
-place_of_difference head bytes = unwrap_or (first_difference head bytes) 8
+abbrev pub offset_of_difference : (head bytes : List ℕ) → ℕ
+offset_of_difference head bytes = unwrap_or (first_difference head bytes) 8
 
 -- the first offset at which the bytes differ from every head
-abbrev pub furthest_place : List (List ℕ) → (bytes : List ℕ) → ℕ
-furthest_place [] bytes = 0
-furthest_place (head ∷ heads) bytes = max (place_of_difference head bytes) (furthest_place heads bytes)
+abbrev pub furthest_offset : List (List ℕ) → (bytes : List ℕ) → ℕ
+furthest_offset [] bytes = 0
+furthest_offset (head ∷ heads) bytes = max (offset_of_difference head bytes) (furthest_offset heads bytes)
 
 -- the index, from 0, of the first head that equals these 8 bytes
 abbrev pub number_of_head : List (List ℕ) → (bytes : List ℕ) → Option ℕ
-number_of_head heads bytes = position_from (λ head. place_of_difference head bytes == 8) 0 heads
+number_of_head heads bytes = position_from (λ head. offset_of_difference head bytes == 8) 0 heads
 
-abbrev pub number_or_place : Option ℕ → ℕ → Result ℕ ℕ
-number_or_place None place = Err place
-number_or_place (Some number) place = Ok number
+abbrev pub number_or_offset : Option ℕ → ℕ → Result ℕ ℕ
+number_or_offset None offset = Err offset
+number_or_offset (Some number) offset = Ok number
 
 -- the index of that head, or else the first offset at which the bytes differ from every head
 abbrev pub head_among : List (List ℕ) → (bytes : List ℕ) → Result ℕ ℕ
-head_among heads bytes = number_or_place (number_of_head heads bytes) (furthest_place heads bytes)
+head_among heads bytes = number_or_offset (number_of_head heads bytes) (furthest_offset heads bytes)

@@ -51,7 +51,7 @@ SaysStop read taken said (Truncated byte) left = (read taken ≡ said_whole said
 SaysStop read taken said stop left = (rest : List ℕ) → read (taken ++ rest) ≡ said_whole said stop rest
 
 -- At most `most` bytes were read after those that the last of these events needs.
-pub record AreFewBehind (read : Reading) (events : List Event) (taken : List ℕ) (most : ℕ) : Type 0 where
+pub record AreFewAfter (read : Reading) (events : List Event) (taken : List ℕ) (most : ℕ) : Type 0 where
   pub needed : List ℕ
   pub later : List ℕ
   pub are : taken ≡ needed ++ later

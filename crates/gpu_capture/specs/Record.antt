@@ -18,8 +18,8 @@ use Rattle.gpu_capture.specs.declared.event.Event.{Event}
 use Rattle.gpu_capture.specs.declared.event.Event.TheVariants as event
 use Rattle.gpu_capture.specs.declared.event.Stop.{Stop}
 use Rattle.gpu_capture.specs.declared.event.Stop.TheVariants.{End, BadRecord}
-use Rattle.gpu_capture.specs.declared.record.Due.{Due}
-use Rattle.gpu_capture.specs.declared.record.Due.TheVariants as due
+use Rattle.gpu_capture.specs.declared.record.Expected.{Expected}
+use Rattle.gpu_capture.specs.declared.record.Expected.TheVariants as expected
 use Rattle.gpu_capture.specs.declared.record.Start.{Start}
 use Rattle.gpu_capture.specs.declared.record.Start.TheVariants as start
 use Rattle.gpu_capture.specs.declared.record.Step.{Step}
@@ -45,51 +45,51 @@ kind_of tag = tag / 2 ^ 24
 abbrev pub count_of : ℕ → ℕ
 count_of tag = tag % 2 ^ 24
 
--- what a tag at byte offset `place` does
+-- what a tag at byte offset `offset` does
 abbrev pub tag_step : ℕ → ℕ → ℕ → Step
-tag_step version place tag =
+tag_step version offset tag =
     let kind = kind_of tag in
     let count = count_of tag in
     if kind == 0 && (count == 0) then Closes End else
-    (if kind == 1 && (nat_le 1 count && nat_le count memory_words) then Opens (due.Address count) else
-    (if kind == 2 && nat_le 1 count then Opens (due.Gp0 count) else
-    (if kind == 3 && (count == 1) then Opens due.Gp1 else
-    (if kind == 4 && is_repeats count then Gives event.Read count due.Tag else
-    (if kind == 5 && (count == 1) then Gives event.Stat 1 due.Tag else
-    (if kind == 6 && ((count == 2) || (count == 6)) then Opens (due.Madr (start.Dma count)) else
-    (if kind == 7 && (nat_le 2 version && (count == 2)) then Opens (due.Madr start.Begin) else
-    (if kind == 8 && (nat_le 2 version && is_repeats count) then Gives event.Turn count due.Tag else
-    (if kind == 9 && (nat_le 2 version && is_repeats count) then Gives event.Skip count due.Tag else
-    Closes (BadRecord place tag))))))))))
+    (if kind == 1 && (nat_le 1 count && nat_le count memory_words) then Opens (expected.Address count) else
+    (if kind == 2 && nat_le 1 count then Opens (expected.Gp0 count) else
+    (if kind == 3 && (count == 1) then Opens expected.Gp1 else
+    (if kind == 4 && is_repeats count then Gives event.Read count expected.Tag else
+    (if kind == 5 && (count == 1) then Gives event.Stat 1 expected.Tag else
+    (if kind == 6 && ((count == 2) || (count == 6)) then Opens (expected.Madr (start.Dma count)) else
+    (if kind == 7 && (nat_le 2 version && (count == 2)) then Opens (expected.Madr start.Begin) else
+    (if kind == 8 && (nat_le 2 version && is_repeats count) then Gives event.Turn count expected.Tag else
+    (if kind == 9 && (nat_le 2 version && is_repeats count) then Gives event.Skip count expected.Tag else
+    Closes (BadRecord offset tag))))))))))
 
 -- the address of a Ram record: a multiple of 4, and all words of the record are below 200000h
 abbrev pub address_step : ℕ → ℕ → ℕ → Step
-address_step place count address =
-    if (address % 4 == 0) && nat_le (address + 4 * count) memory_bytes then Opens (due.Ram address count)
-    else Closes (BadRecord place address)
+address_step offset count address =
+    if (address % 4 == 0) && nat_le (address + 4 * count) memory_bytes then Opens (expected.Ram address count)
+    else Closes (BadRecord offset address)
 
 -- what follows the first of `left` words
-abbrev pub ram_due : ℕ → ℕ → Due
-ram_due address left = if nat_lt 1 left then due.Ram (address + 4) (left - 1) else due.Tag
+abbrev pub ram_expected : ℕ → ℕ → Expected
+ram_expected address left = if nat_lt 1 left then expected.Ram (address + 4) (left - 1) else expected.Tag
 
-abbrev pub gp0_due : ℕ → Due
-gp0_due left = if nat_lt 1 left then due.Gp0 (left - 1) else due.Tag
+abbrev pub gp0_expected : ℕ → Expected
+gp0_expected left = if nat_lt 1 left then expected.Gp0 (left - 1) else expected.Tag
 
 -- the event of a start with these register values
 abbrev pub started_by : Start → (madr bcr chcr : ℕ) → Event
 started_by (start.Dma channel) madr bcr chcr = event.Dma channel madr bcr chcr
 started_by start.Begin madr bcr chcr = event.Begin madr bcr chcr
 
--- what a word at byte offset `place` does, by what it is
-abbrev pub word_step : ℕ → Due → ℕ → ℕ → Step
-word_step version due.Tag place word = tag_step version place word
-word_step version (due.Address count) place word = address_step place count word
-word_step version (due.Ram address left) place word = Gives (event.Ram address word) 1 (ram_due address left)
-word_step version (due.Gp0 left) place word = Gives (event.Gp0 word) 1 (gp0_due left)
-word_step version due.Gp1 place word = Gives (event.Gp1 word) 1 due.Tag
-word_step version (due.Madr by) place word = Opens (due.Bcr by word)
-word_step version (due.Bcr by madr) place word = Opens (due.Chcr by madr word)
-word_step version (due.Chcr by madr bcr) place word = Gives (started_by by madr bcr word) 1 due.Tag
+-- what a word at byte offset `offset` does, by what it is
+abbrev pub word_step : ℕ → Expected → ℕ → ℕ → Step
+word_step version expected.Tag offset word = tag_step version offset word
+word_step version (expected.Address count) offset word = address_step offset count word
+word_step version (expected.Ram address left) offset word = Gives (event.Ram address word) 1 (ram_expected address left)
+word_step version (expected.Gp0 left) offset word = Gives (event.Gp0 word) 1 (gp0_expected left)
+word_step version expected.Gp1 offset word = Gives (event.Gp1 word) 1 expected.Tag
+word_step version (expected.Madr by) offset word = Opens (expected.Bcr by word)
+word_step version (expected.Bcr by madr) offset word = Opens (expected.Chcr by madr word)
+word_step version (expected.Chcr by madr bcr) offset word = Gives (started_by by madr bcr word) 1 expected.Tag
 
 -- ---- bounds
 
@@ -102,15 +102,15 @@ IsBy (start.Dma channel) = IsChannel channel
 IsBy start.Begin = Unit {0}
 
 -- the bounds of what the next word is
-abbrev pub IsDue : Due → Type 0
-IsDue due.Tag = Unit {0}
-IsDue (due.Address count) = (1 ≤ count) × (count ≤ memory_words)
-IsDue (due.Ram address left) = (1 ≤ left) × (address + 4 * left ≤ memory_bytes) × (address % 4 ≡ 0)
-IsDue (due.Gp0 left) = (1 ≤ left) × (left < 2 ^ 24)
-IsDue due.Gp1 = Unit {0}
-IsDue (due.Madr by) = IsBy by
-IsDue (due.Bcr by madr) = IsBy by
-IsDue (due.Chcr by madr bcr) = IsBy by
+abbrev pub IsExpected : Expected → Type 0
+IsExpected expected.Tag = Unit {0}
+IsExpected (expected.Address count) = (1 ≤ count) × (count ≤ memory_words)
+IsExpected (expected.Ram address left) = (1 ≤ left) × (address + 4 * left ≤ memory_bytes) × (address % 4 ≡ 0)
+IsExpected (expected.Gp0 left) = (1 ≤ left) × (left < 2 ^ 24)
+IsExpected expected.Gp1 = Unit {0}
+IsExpected (expected.Madr by) = IsBy by
+IsExpected (expected.Bcr by madr) = IsBy by
+IsExpected (expected.Chcr by madr bcr) = IsBy by
 
 -- a stop that a word decides
 abbrev pub IsWordStop : Stop → Type 0
@@ -132,6 +132,6 @@ IsEvent event.Skip = Unit {0}
 
 -- the bounds of a step
 abbrev pub IsStep : Step → Type 0
-IsStep (Opens next) = IsDue next
-IsStep (Gives given count next) = IsEvent given × (1 ≤ count) × (count ≤ most_repeats) × IsDue next
+IsStep (Opens next) = IsExpected next
+IsStep (Gives given count next) = IsEvent given × (1 ≤ count) × (count ≤ most_repeats) × IsExpected next
 IsStep (Closes stop) = IsWordStop stop

@@ -2,11 +2,11 @@
 ghost use Rattle.std.specs.Prelude.{◌≡◌, ◌≤◌, ◌+◌, ◌*◌, ◌/◌, ◌%◌, List, ℕ, Option, []};
 ghost use Rattle.std.specs.Prelude.{length, drop, min, IfErr, OnOk};
 ghost use Rattle.dev_io.specs.Device.{prepended};
-ghost use Rattle.gpu_capture.specs.Reader.{CountsFaults, IsProgress, IsReadFault, standing};
-ghost use Rattle.gpu_capture.specs.Words.{TakesWords, StopsBehind, CanTake, StaysWithin, behind_words};
+ghost use Rattle.gpu_capture.specs.Reader.{CountsFaults, IsProgress, IsReadFault, reader_input};
+ghost use Rattle.gpu_capture.specs.Words.{TakesWords, StopsAfter, CanTake, StaysWithin, progress_after_words};
 
 use crate::event::Stop;
-use crate::open_words::{behind_words, words_at_once};
+use crate::open_words::{progress_after_words, words_at_once};
 use crate::progress::Progress;
 use arrayvec::ArrayVec;
 use byteorder::{ByteOrder, LittleEndian};
@@ -65,21 +65,21 @@ impl WordBlock {
         most: usize,
     ) -> Result<(), Stop>
         requires { IsProgress progress.old }
-        ensures takes { OnOk result (TakesWords (standing progress.old (S.left source.old))
-            (standing progress.new (S.left source.new)) self.new) }
+        ensures takes { OnOk result (TakesWords (reader_input progress.old (S.left source.old))
+            (reader_input progress.new (S.left source.new)) self.new) }
         ensures stays { StaysWithin progress.old progress.new }
-        ensures few { progress.new.place ≤ progress.old.place + min (4 * most) 2048 }
-        ensures stop { IfErr result (StopsBehind (standing progress.old (S.left source.old))
-            (standing progress.new (S.left source.new)) self.new) }
+        ensures few { progress.new.offset ≤ progress.old.offset + min (4 * most) 2048 }
+        ensures stop { IfErr result (StopsAfter (reader_input progress.old (S.left source.old))
+            (reader_input progress.new (S.left source.new)) self.new) }
         ensures faults { CountsFaults IsReadFault (S.faults source.old) (S.faults source.new) result }
     {
         self.words.clear();
-        let due = words_at_once(progress).min(most);
-        if due == 0 {
+        let expected = words_at_once(progress).min(most);
+        if expected == 0 {
             return Ok(());
         }
         let WordBlock { bytes, words } = self;
-        take_words(progress, source, due, bytes, words)
+        take_words(progress, source, expected, bytes, words)
     }
 }
 
@@ -93,12 +93,12 @@ fn take_words<S: Source>(
 ) -> Result<(), Stop>
     requires can { CanTake progress.old count }
     requires empty { words.old.items ≡ [] }
-    ensures takes { OnOk result (TakesWords (standing progress.old (S.left source.old))
-        (standing progress.new (S.left source.new)) words.new.items) }
+    ensures takes { OnOk result (TakesWords (reader_input progress.old (S.left source.old))
+        (reader_input progress.new (S.left source.new)) words.new.items) }
     ensures stays { StaysWithin progress.old progress.new }
-    ensures few { progress.new.place ≤ progress.old.place + 4 * count }
-    ensures stop { IfErr result (StopsBehind (standing progress.old (S.left source.old))
-        (standing progress.new (S.left source.new)) words.new.items) }
+    ensures few { progress.new.offset ≤ progress.old.offset + 4 * count }
+    ensures stop { IfErr result (StopsAfter (reader_input progress.old (S.left source.old))
+        (reader_input progress.new (S.left source.new)) words.new.items) }
     ensures faults { CountsFaults IsReadFault (S.faults source.old) (S.faults source.new) result }
 {
     fill_words(progress, source, &mut bytes[..4 * count], words)
@@ -115,21 +115,21 @@ fn fill_words<S: Source>(
     requires can { CanTake progress.old (length bytes.old / 4) }
     requires whole { length bytes.old % 4 ≡ 0 }
     requires empty { words.old.items ≡ [] }
-    ensures takes { OnOk result (TakesWords (standing progress.old (S.left source.old))
-        (standing progress.new (S.left source.new)) words.new.items) }
+    ensures takes { OnOk result (TakesWords (reader_input progress.old (S.left source.old))
+        (reader_input progress.new (S.left source.new)) words.new.items) }
     ensures stays { StaysWithin progress.old progress.new }
-    ensures few { progress.new.place ≤ progress.old.place + length bytes.old }
-    ensures stop { IfErr result (StopsBehind (standing progress.old (S.left source.old))
-        (standing progress.new (S.left source.new)) words.new.items) }
+    ensures few { progress.new.offset ≤ progress.old.offset + length bytes.old }
+    ensures stop { IfErr result (StopsAfter (reader_input progress.old (S.left source.old))
+        (reader_input progress.new (S.left source.new)) words.new.items) }
     ensures faults { CountsFaults IsReadFault (S.faults source.old) (S.faults source.new) result }
 {
-    let place = progress.place;
+    let offset = progress.offset;
     match fill(source, bytes) {
         Ok(n) => {
             read_words(progress, &bytes[..n], words);
             if n < bytes.len() {
                 Err(Stop::Truncated {
-                    byte: place + n as u32,
+                    byte: offset + n as u32,
                 })
             } else {
                 Ok(())
@@ -138,7 +138,7 @@ fn fill_words<S: Source>(
         Err(n) => {
             read_words(progress, &bytes[..n], words);
             Err(Stop::ReadFault {
-                byte: place + n as u32,
+                byte: offset + n as u32,
             })
         }
     }
@@ -149,14 +149,14 @@ fn fill_words<S: Source>(
 fn read_words(progress: &mut Progress, bytes: &[u8], words: &mut ArrayVec<u32, 512>)
     requires can { CanTake progress.old (length bytes.now / 4) }
     requires empty { words.old.items ≡ [] }
-    ensures takes { (now : Option (List ℕ)) → TakesWords (standing progress.old (prepended bytes.now now))
-        (standing progress.new (prepended (drop (4 * (length bytes.now / 4)) bytes.now) now)) words.new.items }
-    ensures place { progress.new ≡ behind_words progress.old (length bytes.now / 4) }
+    ensures takes { (now : Option (List ℕ)) → TakesWords (reader_input progress.old (prepended bytes.now now))
+        (reader_input progress.new (prepended (drop (4 * (length bytes.now / 4)) bytes.now) now)) words.new.items }
+    ensures offset { progress.new ≡ progress_after_words progress.old (length bytes.now / 4) }
     ensures stays { StaysWithin progress.old progress.new }
 {
     let count = bytes.len() / 4;
     for i in 0..count {
         words.push(LittleEndian::read_u32(&bytes[4 * i..]));
     }
-    *progress = behind_words(progress, count as u32);
+    *progress = progress_after_words(progress, count as u32);
 }

@@ -22,7 +22,7 @@ pub use event::{Event, Stop};
 pub use head::head_among;
 pub use progress::Progress;
 pub use reader::EventReader;
-pub use record::Due;
+pub use record::Expected;
 pub use write::{
     RECORD_MOST, head_bytes, record_bytes, word_record, write_end, write_event, write_start,
 };

@@ -3,12 +3,13 @@ ghost use Rattle.std.specs.Prelude.{◌≡◌, ◌<◌, ◌≤◌, ◌+◌, ◌^
 ghost use Rattle.std.specs.Prelude.{option_to_list};
 ghost use Rattle.gpu_capture.specs.Record.{IsEvent};
 ghost use Rattle.gpu_capture.specs.Capture.{head_version, IsVersion};
-ghost use Rattle.gpu_capture.specs.Reader.{IsWord, EndsWord, IsBehindHead, IsProgress, Takes, StopsAt};
-ghost use Rattle.gpu_capture.specs.Reader.{CountsFaults, IsReadFault, standing, work_left, tag_due, behind_word};
+ghost use Rattle.gpu_capture.specs.Reader.{IsWord, EndsWord, IsAfterHead, IsProgress, Takes, StopsAt};
+ghost use Rattle.gpu_capture.specs.Reader.{CountsFaults, IsReadFault, reader_input, work_left, tag_expected};
+ghost use Rattle.gpu_capture.specs.Reader.{progress_after_word};
 
 use crate::event::{Event, Stop};
 use crate::head::head_among;
-use crate::record::{Due, Step, read_step};
+use crate::record::{Expected, Step, read_step};
 use byteorder::{ByteOrder, LittleEndian};
 use dev_io::{Source, fill};
 
@@ -17,35 +18,35 @@ pub(crate) const LIMIT: u32 = 1 << 30;
 /// The file headers of versions 1 to 3, in this order.
 const HEADS: [[u8; 8]; 3] = [*b"PSXGPUC1", *b"PSXGPUC2", *b"PSXGPUC3"];
 
-/// The state of a reader. `version`: 0 until the 8-byte header is read. `place`: byte offset of the next word. `due`:
+/// The state of a reader. `version`: 0 until the 8-byte header is read. `offset`: byte offset of the next word. `expected`:
 /// what that word is. `repeated`, `left`: the reader returns `repeated` `left` more times before it reads the word.
 #[derive(Clone, Copy, Debug, PartialEq, Eq)]
 pub struct Progress {
     pub version: u8,
-    pub place: u32,
-    pub due: Due,
+    pub offset: u32,
+    pub expected: Expected,
     pub repeated: Event,
     pub left: u32,
 }
 
-/// Reads the word at byte offset `place`. At offset 2^30 or later, reads nothing and returns `TooLong`.
-fn read_word<S: Source>(source: &mut S, place: u32) -> Result<u32, Stop>
-    requires { place < 2 ^ 31 }
-    ensures word { IfOk result (λ word. IsWord (S.left source.old) (S.left source.new) place word) }
-    ensures stop { IfErr result (λ stop. EndsWord (S.left source.old) (S.left source.new) place stop) }
+/// Reads the word at byte offset `offset`. At offset 2^30 or later, reads nothing and returns `TooLong`.
+fn read_word<S: Source>(source: &mut S, offset: u32) -> Result<u32, Stop>
+    requires { offset < 2 ^ 31 }
+    ensures word { IfOk result (λ word. IsWord (S.left source.old) (S.left source.new) offset word) }
+    ensures stop { IfErr result (λ stop. EndsWord (S.left source.old) (S.left source.new) offset stop) }
     ensures faults { CountsFaults IsReadFault (S.faults source.old) (S.faults source.new) result }
 {
-    if place >= LIMIT {
+    if offset >= LIMIT {
         return Err(Stop::TooLong { byte: LIMIT });
     }
     let mut bytes = [0u8; 4];
     match fill(source, &mut bytes) {
         Ok(4) => Ok(LittleEndian::read_u32(&bytes)),
         Ok(n) => Err(Stop::Truncated {
-            byte: place + n as u32,
+            byte: offset + n as u32,
         }),
         Err(n) => Err(Stop::ReadFault {
-            byte: place + n as u32,
+            byte: offset + n as u32,
         }),
     }
 }
@@ -53,7 +54,7 @@ fn read_word<S: Source>(source: &mut S, place: u32) -> Result<u32, Stop>
 /// Returns the version that a file header names, or the first offset at which `bytes` differs from every known header.
 fn version_of(bytes: &[u8; 8]) -> Result<u8, usize>
     ensures version { result ≡ head_version bytes.now }
-    ensures within { IfErr result (λ place. place < 8) }
+    ensures within { IfErr result (λ offset. offset < 8) }
     ensures known { IfOk result IsVersion }
 {
     let number = head_among(&HEADS, bytes)?;
@@ -64,12 +65,12 @@ fn version_of(bytes: &[u8; 8]) -> Result<u8, usize>
 fn take_head<S: Source>(progress: &mut Progress, source: &mut S) -> Result<(), Stop>
     requires { IsProgress progress.old }
     ensures takes { OnOk result
-        (Takes (standing progress.old (S.left source.old)) (standing progress.new (S.left source.new)) []) }
+        (Takes (reader_input progress.old (S.left source.old)) (reader_input progress.new (S.left source.new)) []) }
     ensures started { OnOk result (1 ≤ progress.new.version) }
     ensures bounds { IsProgress progress.new }
     ensures forward { OnOk result (work_left progress.new ≤ work_left progress.old) }
     ensures stop { IfErr result
-        (StopsAt (standing progress.old (S.left source.old)) (standing progress.new (S.left source.new))) }
+        (StopsAt (reader_input progress.old (S.left source.old)) (reader_input progress.new (S.left source.new))) }
     ensures faults { CountsFaults IsReadFault (S.faults source.old) (S.faults source.new) result }
 {
     if progress.version > 0 {
@@ -82,24 +83,26 @@ fn take_head<S: Source>(progress: &mut Progress, source: &mut S) -> Result<(), S
                 *progress = at_tag(version, 8);
                 Ok(())
             }
-            Err(place) => Err(Stop::NotCapture { byte: place as u32 }),
+            Err(offset) => Err(Stop::NotCapture {
+                byte: offset as u32,
+            }),
         },
         Ok(n) => Err(Stop::Truncated { byte: n as u32 }),
         Err(n) => Err(Stop::ReadFault { byte: n as u32 }),
     }
 }
 
-/// Returns the state of a reader of `version` that reads a tag next, at byte offset `place`.
-pub(crate) fn at_tag(version: u8, place: u32) -> Progress
+/// Returns the state of a reader of `version` that reads a tag next, at byte offset `offset`.
+pub(crate) fn at_tag(version: u8, offset: u32) -> Progress
     requires version { IsVersion version }
-    requires place { place < 2 ^ 31 }
-    ensures value { result ≡ tag_due version place }
+    requires offset { offset < 2 ^ 31 }
+    ensures value { result ≡ tag_expected version offset }
     ensures bounds { IsProgress result }
 {
     Progress {
         version,
-        place,
-        due: Due::Tag,
+        offset,
+        expected: Expected::Tag,
         repeated: Event::Stat,
         left: 0,
     }
@@ -108,29 +111,29 @@ pub(crate) fn at_tag(version: u8, place: u32) -> Progress
 /// If `left` is not 0, lowers it, returns `repeated` and reads nothing. Otherwise reads one word. Returns `None` if the
 /// word completes no event.
 fn take_word<S: Source>(progress: &mut Progress, source: &mut S) -> Result<Option<Event>, Stop>
-    requires { IsBehindHead progress.old }
-    ensures takes { IfOk result (λ event. Takes (standing progress.old (S.left source.old))
-        (standing progress.new (S.left source.new)) (option_to_list event)) }
-    ensures stays { IsBehindHead progress.new }
+    requires { IsAfterHead progress.old }
+    ensures takes { IfOk result (λ event. Takes (reader_input progress.old (S.left source.old))
+        (reader_input progress.new (S.left source.new)) (option_to_list event)) }
+    ensures stays { IsAfterHead progress.new }
     ensures event { IfOk result (λ event. IfSome event IsEvent) }
     ensures forward { OnOk result (work_left progress.new < work_left progress.old) }
     ensures stop { IfErr result
-        (StopsAt (standing progress.old (S.left source.old)) (standing progress.new (S.left source.new))) }
+        (StopsAt (reader_input progress.old (S.left source.old)) (reader_input progress.new (S.left source.new))) }
     ensures faults { CountsFaults IsReadFault (S.faults source.old) (S.faults source.new) result }
 {
     if progress.left > 0 {
         progress.left -= 1;
         return Ok(Some(progress.repeated));
     }
-    let place = progress.place;
-    let word = read_word(source, place)?;
-    match read_step(progress.version, progress.due, place, word) {
+    let offset = progress.offset;
+    let word = read_word(source, offset)?;
+    match read_step(progress.version, progress.expected, offset, word) {
         Step::Opens { next } => {
-            *progress = behind_word(*progress, next, progress.repeated, 0);
+            *progress = progress_after_word(*progress, next, progress.repeated, 0);
             Ok(None)
         }
         Step::Gives { event, count, next } => {
-            *progress = behind_word(*progress, next, event, count - 1);
+            *progress = progress_after_word(*progress, next, event, count - 1);
             Ok(Some(event))
         }
         Step::Closes { stop } => Err(stop),
@@ -138,14 +141,19 @@ fn take_word<S: Source>(progress: &mut Progress, source: &mut S) -> Result<Optio
 }
 
 /// Returns the reader state after one word: the offset 4 larger, the other values as given.
-fn behind_word(progress: Progress, due: Due, repeated: Event, left: u32) -> Progress
-    requires { progress.place < 2 ^ 30 }
-    ensures { result ≡ behind_word progress due repeated left }
+fn progress_after_word(
+    progress: Progress,
+    expected: Expected,
+    repeated: Event,
+    left: u32,
+) -> Progress
+    requires { progress.offset < 2 ^ 30 }
+    ensures { result ≡ progress_after_word progress expected repeated left }
 {
     Progress {
         version: progress.version,
-        place: progress.place + 4,
-        due,
+        offset: progress.offset + 4,
+        expected,
         repeated,
         left,
     }
@@ -154,14 +162,14 @@ fn behind_word(progress: Progress, due: Due, repeated: Event, left: u32) -> Prog
 /// Returns the next event. Reads the header first if it is unread.
 pub(crate) fn advance<S: Source>(progress: &mut Progress, source: &mut S) -> Result<Event, Stop>
     requires { IsProgress progress.old }
-    ensures takes { IfOk result (λ event. Takes (standing progress.old (S.left source.old))
-        (standing progress.new (S.left source.new)) (event ∷ [])) }
+    ensures takes { IfOk result (λ event. Takes (reader_input progress.old (S.left source.old))
+        (reader_input progress.new (S.left source.new)) (event ∷ [])) }
     ensures bounds { IsProgress progress.new }
     ensures event { IfOk result IsEvent }
     ensures started { OnOk result (1 ≤ progress.new.version) }
     ensures forward { OnOk result (work_left progress.new < work_left progress.old) }
     ensures stop { IfErr result
-        (StopsAt (standing progress.old (S.left source.old)) (standing progress.new (S.left source.new))) }
+        (StopsAt (reader_input progress.old (S.left source.old)) (reader_input progress.new (S.left source.new))) }
     ensures faults { CountsFaults IsReadFault (S.faults source.old) (S.faults source.new) result }
 {
     take_head(progress, source)?;

@@ -3,18 +3,18 @@ ghost use Rattle.std.specs.Prelude.{◌≡◌, ◌≤◌, ◌<◌, ◌+◌, ◌*
 ghost use Rattle.std.specs.Prelude.{IfOk, IfErr, OnOk};
 ghost use Rattle.dev_io.specs.Device.{Rose};
 ghost use Rattle.gpu_capture.specs.Record.{IsEvent};
-ghost use Rattle.gpu_capture.specs.Reader.{StopsAt, Takes, CountsFaults, IsReadFault, IsStart, standing, work_left};
-ghost use Rattle.gpu_capture.specs.Reader.{tag_due};
+ghost use Rattle.gpu_capture.specs.Reader.{StopsAt, Takes, CountsFaults, IsReadFault, IsStart, reader_input, work_left};
+ghost use Rattle.gpu_capture.specs.Reader.{tag_expected};
 ghost use Rattle.gpu_capture.specs.Capture.{IsVersion};
 ghost use Rattle.gpu_capture.specs.Limit.{IsAtHand};
 ghost use Rattle.gpu_capture.specs.State.{KeepsStop};
-ghost use Rattle.gpu_capture.specs.Words.{TakesWords, StopsBehind, GoesOn, gp0_left};
+ghost use Rattle.gpu_capture.specs.Words.{TakesWords, StopsAfter, GoesOn, gp0_left};
 
 use crate::block::WordBlock;
 use crate::event::{Event, Stop};
 use crate::open_words::gp0_left;
 use crate::progress::{Progress, advance, at_tag};
-use crate::record::Due;
+use crate::record::Expected;
 use crate::write::RECORD_MOST;
 use dev_io::Source;
 use std::marker::Model;
@@ -54,8 +54,8 @@ impl EventReader {
         EventReader {
             progress: Progress {
                 version: 0,
-                place: 0,
-                due: Due::Tag,
+                offset: 0,
+                expected: Expected::Tag,
                 repeated: Event::Stat,
                 left: 0,
             },
@@ -69,8 +69,8 @@ impl EventReader {
     pub fn at(version: u8, byte: u32) -> Self
         requires version { IsVersion version }
         requires whole { byte % 4 ≡ 0 }
-        requires behind_head { (8 ≤ byte) × (byte ≤ 2 ^ 30) }
-        ensures place { result.progress ≡ tag_due version byte }
+        requires after_head { (8 ≤ byte) × (byte ≤ 2 ^ 30) }
+        ensures offset { result.progress ≡ tag_expected version byte }
         ensures work { work_left result.progress < 2 ^ 51 }
         ensures stop { result.stop ≡ None }
     {
@@ -89,39 +89,39 @@ impl EventReader {
     }
 
     /// Returns the byte offset of the next word: 0 until the header is read.
-    pub fn place(&self) -> u32
-        ensures { result ≡ self.now.progress.place }
+    pub fn offset(&self) -> u32
+        ensures { result ≡ self.now.progress.offset }
     {
-        self.progress.place
+        self.progress.offset
     }
 
     /// Returns how many words are left in an open Gp0 record, and 0 if none is open.
     pub fn words_left(&self) -> u32
-        ensures { result ≡ gp0_left self.now.progress.due }
+        ensures { result ≡ gp0_left self.now.progress.expected }
     {
-        gp0_left(self.progress.due)
+        gp0_left(self.progress.expected)
     }
 
     /// Returns whether buffered output should be written before the next event is read: if the source may have to wait
     /// for that event, or if 4,096 bytes or more were read after offset `since`.
     pub fn pauses<S: Source>(&self, source: &S, since: u32) -> bool
         ensures waits { result ≡ false → IsAtHand self.now.progress (S.at_hand source.now) }
-        ensures few { result ≡ false → self.now.progress.place < since + 4096 }
+        ensures few { result ≡ false → self.now.progress.offset < since + 4096 }
     {
         let waits = self.progress.left == 0 && source.ready() < RECORD_MOST;
-        waits || self.progress.place >= since.saturating_add(FEW)
+        waits || self.progress.offset >= since.saturating_add(FEW)
     }
 
     /// Returns the next event. Reads no byte after those that decide the event or the stop. After a stop, every call
     /// returns the same stop and reads nothing.
     pub fn next<S: Source>(&mut self, source: &mut S) -> Result<Event, Stop>
-        ensures takes { IfOk result (λ event. Takes (standing self.old.progress (S.left source.old))
-            (standing self.new.progress (S.left source.new)) (event ∷ [])) }
+        ensures takes { IfOk result (λ event. Takes (reader_input self.old.progress (S.left source.old))
+            (reader_input self.new.progress (S.left source.new)) (event ∷ [])) }
         ensures event { IfOk result IsEvent }
         ensures forward { OnOk result (work_left self.new.progress < work_left self.old.progress) }
         ensures version { OnOk result (1 ≤ self.new.progress.version) }
-        ensures stop { self.old.stop ≡ None → IfErr result (StopsAt (standing self.old.progress (S.left source.old))
-            (standing self.new.progress (S.left source.new))) }
+        ensures stop { self.old.stop ≡ None → IfErr result (StopsAt (reader_input self.old.progress (S.left source.old))
+            (reader_input self.new.progress (S.left source.new))) }
         ensures keeps { KeepsStop self.old self.new (S.left source.old) (S.left source.new) result }
         ensures cause { self.old.stop ≡ None → IfErr result (λ stop.
             IsReadFault stop → Rose (S.faults source.old) (S.faults source.new)) }
@@ -152,12 +152,12 @@ impl EventReader {
         block: &mut WordBlock,
     ) -> Result<(), Stop>
         requires { self.old.stop ≡ None }
-        ensures takes { OnOk result (TakesWords (standing self.old.progress (S.left source.old))
-            (standing self.new.progress (S.left source.new)) block.new) }
-        ensures few { self.new.progress.place ≤ self.old.progress.place + min (4 * most) 2048 }
+        ensures takes { OnOk result (TakesWords (reader_input self.old.progress (S.left source.old))
+            (reader_input self.new.progress (S.left source.new)) block.new) }
+        ensures few { self.new.progress.offset ≤ self.old.progress.offset + min (4 * most) 2048 }
         ensures goes_on { GoesOn self.old.progress self.new.progress }
-        ensures stop { IfErr result (StopsBehind (standing self.old.progress (S.left source.old))
-            (standing self.new.progress (S.left source.new)) block.new) }
+        ensures stop { IfErr result (StopsAfter (reader_input self.old.progress (S.left source.old))
+            (reader_input self.new.progress (S.left source.new)) block.new) }
         ensures keeps { KeepsStop self.old self.new (S.left source.old) (S.left source.new) result }
         ensures faults { CountsFaults IsReadFault (S.faults source.old) (S.faults source.new) result }
     {

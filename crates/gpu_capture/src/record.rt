@@ -1,6 +1,6 @@
 // What a word does, by the record that is open at it.
 ghost use Rattle.std.specs.Prelude.{◌≡◌, ◌<◌, ◌/◌};
-ghost use Rattle.gpu_capture.specs.Record.{IsDue, IsStep, word_step, address_step, gp0_due};
+ghost use Rattle.gpu_capture.specs.Record.{IsExpected, IsStep, word_step, address_step, gp0_expected};
 ghost use Rattle.gpu_capture.specs.Record.{started_by, IsBy, IsEvent};
 
 use crate::event::{Event, Stop};
@@ -11,7 +11,7 @@ pub(crate) const MEMORY_BYTES: u32 = 0x20_0000;
 
 /// What the next word of a capture is.
 #[derive(Clone, Copy, Debug, PartialEq, Eq)]
-pub enum Due {
+pub enum Expected {
     /// No record is open; the next word is a tag.
     Tag,
     /// The address of a Ram record of `count` words.
@@ -43,47 +43,55 @@ pub enum Start {
 #[derive(Clone, Copy, Debug, PartialEq, Eq)]
 pub(crate) enum Step {
     /// It is followed by another word of its record.
-    Opens { next: Due },
+    Opens {
+        next: Expected,
+    },
     /// It gives `event` `count` times. `next` is what the following word is.
-    Gives { event: Event, count: u32, next: Due },
+    Gives {
+        event: Event,
+        count: u32,
+        next: Expected,
+    },
     /// It ends the capture.
-    Closes { stop: Stop },
+    Closes {
+        stop: Stop,
+    },
 }
 
-/// Returns what `word` at byte offset `place` does, if `due` is what the word is, in a capture of this version.
-pub(crate) fn read_step(version: u8, due: Due, place: u32, word: u32) -> Step
-    requires { IsDue due }
-    ensures value { result ≡ word_step version due place word }
+/// Returns what `word` at byte offset `offset` does, if `expected` is what the word is, in a capture of this version.
+pub(crate) fn read_step(version: u8, expected: Expected, offset: u32, word: u32) -> Step
+    requires { IsExpected expected }
+    ensures value { result ≡ word_step version expected offset word }
     ensures bounds { IsStep result }
 {
-    match due {
-        Due::Tag => tag(version, place, word),
-        Due::Address { count } => address(place, count, word),
-        Due::Ram { address, left } => ram(address, left, word),
-        Due::Gp0 { left } => Step::Gives {
+    match expected {
+        Expected::Tag => tag(version, offset, word),
+        Expected::Address { count } => address(offset, count, word),
+        Expected::Ram { address, left } => ram(address, left, word),
+        Expected::Gp0 { left } => Step::Gives {
             event: Event::Gp0 { word },
             count: 1,
             next: gp0(left),
         },
-        Due::Gp1 => Step::Gives {
+        Expected::Gp1 => Step::Gives {
             event: Event::Gp1 { word },
             count: 1,
-            next: Due::Tag,
+            next: Expected::Tag,
         },
-        Due::Madr { by } => Step::Opens {
-            next: Due::Bcr { by, madr: word },
+        Expected::Madr { by } => Step::Opens {
+            next: Expected::Bcr { by, madr: word },
         },
-        Due::Bcr { by, madr } => Step::Opens {
-            next: Due::Chcr {
+        Expected::Bcr { by, madr } => Step::Opens {
+            next: Expected::Chcr {
                 by,
                 madr,
                 bcr: word,
             },
         },
-        Due::Chcr { by, madr, bcr } => Step::Gives {
+        Expected::Chcr { by, madr, bcr } => Step::Gives {
             event: started(by, madr, bcr, word),
             count: 1,
-            next: Due::Tag,
+            next: Expected::Tag,
         },
     }
 }
@@ -105,37 +113,37 @@ fn started(by: Start, madr: u32, bcr: u32, chcr: u32) -> Event
     }
 }
 
-fn address(place: u32, count: u32, word: u32) -> Step
-    requires { IsDue (Due.Address count) }
-    ensures value { result ≡ address_step place count word }
+fn address(offset: u32, count: u32, word: u32) -> Step
+    requires { IsExpected (Expected.Address count) }
+    ensures value { result ≡ address_step offset count word }
     ensures bounds { IsStep result }
 {
     if word % 4 == 0 && word <= MEMORY_BYTES && word + 4 * count <= MEMORY_BYTES {
         Step::Opens {
-            next: Due::Ram {
+            next: Expected::Ram {
                 address: word,
                 left: count,
             },
         }
     } else {
         Step::Closes {
-            stop: Stop::BadRecord { byte: place, word },
+            stop: Stop::BadRecord { byte: offset, word },
         }
     }
 }
 
 fn ram(address: u32, left: u32, word: u32) -> Step
-    requires { IsDue (Due.Ram address left) }
-    ensures value { result ≡ word_step 1 (Due.Ram address left) 0 word }
+    requires { IsExpected (Expected.Ram address left) }
+    ensures value { result ≡ word_step 1 (Expected.Ram address left) 0 word }
     ensures bounds { IsStep result }
 {
     let next = if left > 1 {
-        Due::Ram {
+        Expected::Ram {
             address: address + 4,
             left: left - 1,
         }
     } else {
-        Due::Tag
+        Expected::Tag
     };
     Step::Gives {
         event: Event::Ram { address, word },
@@ -145,14 +153,14 @@ fn ram(address: u32, left: u32, word: u32) -> Step
 }
 
 /// Returns what follows the first of `left` words of a Gp0 record.
-fn gp0(left: u32) -> Due
-    requires { IsDue (Due.Gp0 left) }
-    ensures value { result ≡ gp0_due left }
-    ensures bounds { IsDue result }
+fn gp0(left: u32) -> Expected
+    requires { IsExpected (Expected.Gp0 left) }
+    ensures value { result ≡ gp0_expected left }
+    ensures bounds { IsExpected result }
 {
     if left > 1 {
-        Due::Gp0 { left: left - 1 }
+        Expected::Gp0 { left: left - 1 }
     } else {
-        Due::Tag
+        Expected::Tag
     }
 }

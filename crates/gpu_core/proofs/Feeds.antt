@@ -13,7 +13,7 @@ use Rattle.gpu_taps.specs.Bare.{bare_note, bare_notes, after_notes}
 use Rattle.gpu_taps.specs.Tally.{Reading, capped}
 use Rattle.gpu_taps.proofs.Bare.{bare_notes-push}
 use Rattle.gpu_core.specs.Cost.{gp0_cost}
-use Rattle.gpu_core.specs.Feeds.{Behind, Hearing, SetsRegisters, TakesWords, feed_notes}
+use Rattle.gpu_core.specs.Feeds.{After, Hearing, SetsRegisters, TakesWords, feed_notes}
 use Rattle.gpu_core.specs.Kept.{Kept, kept_of}
 use Rattle.gpu_core.specs.Machine.{Parts, State, after_gp0, gp0_note, effect_of, told_option}
 use Rattle.gpu_core.proofs.Fed.{fed, register_packet, register_note}
@@ -43,7 +43,7 @@ told_one : (note : Option Note) (readings : List Reading) → told_option note r
 told_one None readings = map-same readings
 told_one (Some note) readings = refl
 
-pub one_taken : (s : State) (first word : ℕ) (note : Option Note) (before : Hearing) (now : Behind)
+pub one_taken : (s : State) (first word : ℕ) (note : Option Note) (before : Hearing) (now : After)
     → kept_of (after_gp0 s word) ≡ now.gpu → gp0_note s (capped first) word ≡ note
     → now.heard ≡ told_option note before.heard → now.steps ≤ before.steps + gp0_cost s word
     → TakesWords s first (word ∷ []) before now
@@ -82,7 +82,7 @@ set_more s first words i p q h lt before push class effect =
           ∙ sym (ap (bare_notes 7 first) all ∙ bare_notes-push 7 first some word);
     }
 
-pub set_taken : (s : State) (first : ℕ) (words : List ℕ) (before : Hearing) (now : Behind)
+pub set_taken : (s : State) (first : ℕ) (words : List ℕ) (before : Hearing) (now : After)
     → SetsRegisters s first words now.gpu → now.heard ≡ map (after_notes (bare_notes 7 first words)) before.heard
     → now.steps ≡ before.steps → TakesWords s first words before now
 set_taken s first words before now set told same = record {

@@ -18,7 +18,7 @@ use Rattle.vram_copy.specs.Words.{advanced, advanced_by, pixels_next, pixels_in,
 use Rattle.vram_copy.specs.declared.transfer.Transfer.{Transfer}
 use Rattle.gpu_core.specs.Cost.{gp0_cost, pixels_of}
 use Rattle.gpu_core.specs.Kept.{Kept, kept_of, IsLinked}
-use Rattle.gpu_core.specs.Feeds.{Behind, Hearing, TakesWords, but_pixels, feed_notes, feeds_cost}
+use Rattle.gpu_core.specs.Feeds.{After, Hearing, TakesWords, but_pixels, feed_notes, feeds_cost}
 use Rattle.gpu_core.specs.Loading.{open_still, with_words, pixels_in_load}
 use Rattle.gpu_core.specs.Machine.{Parts, State, after_gp0, gp0_note, with_pixels}
 use Rattle.gpu_core.proofs.Fed.{fed, data_effect, data_cost, data_note}
@@ -53,8 +53,8 @@ one s p job left word e open_load kept =
 
 -- ---- more words
 
-behind_more : (left n : ℕ) → behind_pixels (pending.Pixels (left - 1)) n ≡ behind_pixels (pending.Pixels left) (suc n)
-behind_more left n =
+after_more : (left n : ℕ) → behind_pixels (pending.Pixels (left - 1)) n ≡ behind_pixels (pending.Pixels left) (suc n)
+after_more left n =
     elim (cases_Bool (nat_lt (suc n) left)) [
       | inl is ↦
           let more : nat_lt n (left - 1) ≡ true = grind (arith, nat_tests, is) in
@@ -101,7 +101,7 @@ loaded (word ∷ next ∷ words) s p job left some e open_load kept link few =
     record {
       feed = rest.feed ∙ ap (λ (p : Parts). record { parts = p; pending = behind_pixels (pending.Pixels (left - 1)) n })
           (ap f (one_more_word job n))
-          ∙ ap (λ (h : Pending). record { parts = f (advanced_by job (suc n)); pending = h }) (behind_more left n);
+          ∙ ap (λ (h : Pending). record { parts = f (advanced_by job (suc n)); pending = h }) (after_more left n);
       notes = λ number. rw (first.note (capped number), rest.notes (number + 1)) refl;
       cost = let a = first.cost in let b = rest.cost in let more = pixels_more job n in omega (arith, a, b, more);
     }
@@ -115,7 +115,7 @@ pixels_unseen first (word ∷ words) = pixels_unseen (first + 1) words
 
 -- its words were fed at once, and each has the note of a data word
 pub loads : (s : State) (p : Parts) (load : Option Transfer) (h : Pending) (played : ℕ) (words : List ℕ)
-    (before : Hearing) (now : Behind)
+    (before : Hearing) (now : After)
     → kept_of s ≡ record { parts = p; pending = h } → p.load ≡ load → IsPending h → IsLinked h load → 0 < length words
     → length words ≤ wanted h
     → now.gpu ≡ record { parts = with_words p load words; pending = behind_pixels h (length words) }

@@ -17,7 +17,7 @@ use Rattle.gpu_taps.specs.Bare.{after_notes}
 use Rattle.gpu_taps.specs.Tally.{capped, reading_after}
 use Rattle.gpu_core.specs.Area.{note_of}
 use Rattle.gpu_core.specs.Cost.{item_cost}
-use Rattle.gpu_core.specs.Feeds.{Behind, Hearing, TakesWords, feed_notes, feeds_cost}
+use Rattle.gpu_core.specs.Feeds.{After, Hearing, TakesWords, feed_notes, feeds_cost}
 use Rattle.gpu_core.specs.Kept.{Kept, kept_of, IsLinked}
 use Rattle.gpu_core.specs.Machine.{Parts, State, after_gp0, effect_of, after_item}
 use Rattle.gpu_core.proofs.Fed.{fed}
@@ -112,7 +112,7 @@ taken (word ∷ next ∷ words) s p first held n some e kind len =
 
 -- they were fed at once, and have this note
 pub plain_taken : (s : State) (p : Parts) (h : Pending) (note : Note) (event played : ℕ) (words : List ℕ)
-    (before : Hearing) (now : Behind)
+    (before : Hearing) (now : After)
     → kept_of s ≡ record { parts = p; pending = h } → h ≡ pending.Idle → 0 < length words
     → kind_of (slice_index words 0) ≡ Plain (length words) → event ≡ capped (played + length words)
     → note ≡ note_of p.regs event (item.Whole words)

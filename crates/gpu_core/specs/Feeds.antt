@@ -33,14 +33,14 @@ pub record Hearing : Type 0 where
   pub steps : ℕ
 
 -- the same, with the essential state of the GPU
-pub record Behind : Type 0 where
+pub record After : Type 0 where
   pub gpu : Kept
   pub heard : List Reading
   pub steps : ℕ
 
 -- Words were fed at once. The effect is that of feeding them one after another. Only the order of notes differs: each
 -- listener received all of them before the next listener.
-pub record TakesWords (s : State) (first : ℕ) (words : List ℕ) (before : Hearing) (now : Behind) : Type 0 where
+pub record TakesWords (s : State) (first : ℕ) (words : List ℕ) (before : Hearing) (now : After) : Type 0 where
   pub feed : kept_of (fold after_gp0 s words) ≡ now.gpu
   pub told : now.heard ≡ map (after_notes (feed_notes s first words)) before.heard
   pub cost : now.steps ≤ before.steps + feeds_cost s words

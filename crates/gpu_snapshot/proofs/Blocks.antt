@@ -29,9 +29,9 @@ first_word (a ∷ b ∷ c ∷ d ∷ rest) word long fit is = record {
   fits = let p = fit 0 in let q = fit 1 in let r = fit 2 in let t = fit 3 in omega (arith, is, p, q, r, t);
 }
 
-fit_behind : (block : List ℕ) (at : ℕ) → ((i : ℕ) → slice_index block i < 256)
+fit_after : (block : List ℕ) (at : ℕ) → ((i : ℕ) → slice_index block i < 256)
     → (i : ℕ) → slice_index (drop at block) i < 256
-fit_behind block at fit i = rw (get_or-drop at block i 0) (fit (at + i))
+fit_after block at fit i = rw (get_or-drop at block i 0) (fit (at + i))
 
 -- the word with this index
 pub block_word : (block : List ℕ) (k word : ℕ) → length block ≡ 2048 → k < 512
@@ -46,28 +46,28 @@ block_word block k word long within fit is =
     let e : drop 4 (drop (4 * k) block) ≡ drop (4 * (k + 1)) block =
     drop-drop 4 (4 * k) block ∙ ap (λ at. drop at block) (omega arith) in
     subst (λ left. IsWord (Some (drop (4 * k) block)) (Some left) word) e
-    (first_word (drop (4 * k) block) word some (fit_behind block (4 * k) fit) number)
+    (first_word (drop (4 * k) block) word some (fit_after block (4 * k) fit) number)
 
 -- ---- a block in place of a source
 
 -- what is read of a block is read of the source that has its bytes next
-behind_block : (bytes left taken : List ℕ) (now : Option (List ℕ)) → Some bytes ≡ prepended taken (Some left)
+after_block : (bytes left taken : List ℕ) (now : Option (List ℕ)) → Some bytes ≡ prepended taken (Some left)
     → prepended bytes now ≡ prepended taken (prepended left now)
-behind_block bytes left taken now is =
+after_block bytes left taken now is =
     let e : bytes ≡ taken ++ left = cc in
     ap (λ all. prepended all now) e ∙ sym (prepended-prepended taken left now)
 
-pub cells_behind : (bytes left cells : List ℕ) (now : Option (List ℕ)) → TakesCells (Some bytes) (Some left) cells
+pub cells_after : (bytes left cells : List ℕ) (now : Option (List ℕ)) → TakesCells (Some bytes) (Some left) cells
     → TakesCells (prepended bytes now) (prepended left now) cells
-cells_behind bytes left cells now takes =
-    record { bytes = behind_block bytes left _ now takes.bytes; each = takes.each }
+cells_after bytes left cells now takes =
+    record { bytes = after_block bytes left _ now takes.bytes; each = takes.each }
 
-pub word_behind : (bytes left : List ℕ) (word : ℕ) (now : Option (List ℕ)) → IsWord (Some bytes) (Some left) word
+pub word_after : (bytes left : List ℕ) (word : ℕ) (now : Option (List ℕ)) → IsWord (Some bytes) (Some left) word
     → IsWord (prepended bytes now) (prepended left now) word
-word_behind bytes left word now took =
-    record { bytes = behind_block bytes left _ now took.bytes; fits = took.fits }
+word_after bytes left word now took =
+    record { bytes = after_block bytes left _ now took.bytes; fits = took.fits }
 
 -- nothing is left of a block that was read completely
-pub none_behind : (block : List ℕ) (at : ℕ) (now : Option (List ℕ)) → length block ≤ at
+pub none_after : (block : List ℕ) (at : ℕ) (now : Option (List ℕ)) → length block ≤ at
     → prepended (drop at block) now ≡ now
-none_behind block at now le = ap (λ left. prepended left now) (drop_all at block le) ∙ sym (prepended-nil now)
+none_after block at now le = ap (λ left. prepended left now) (drop_all at block le) ∙ sym (prepended-nil now)

@@ -42,21 +42,21 @@ AreCells-append [] ys are more = more
 AreCells-append (x ∷ xs) ys are more = (are.0, AreCells-append xs ys are.1 more)
 
 -- the same offset, counted otherwise
-pub short_at : (why : SnapFault) (place other : ℕ) (now : Option (List ℕ)) → place ≡ other → SaysShort why place now
+pub short_at : (why : SnapFault) (offset other : ℕ) (now : Option (List ℕ)) → offset ≡ other → SaysShort why offset now
     → SaysShort why other now
-short_at why place other now e says = rw (← e) says
+short_at why offset other now e says = rw (← e) says
 
 -- after these words, the next ones could not be read
-pub lacks_later : (before mid now : Option (List ℕ)) (words : List ℕ) (place at few count : ℕ) (why : SnapFault)
-    → before ≡ prepended (bytes_of words) mid → length words + few ≤ count → at ≡ place + 4 * length words
-    → LacksWords mid now at few why → LacksWords before now place count why
-lacks_later before mid now words place at few count why were fits is lack =
+pub lacks_later : (before mid now : Option (List ℕ)) (words : List ℕ) (offset at few count : ℕ) (why : SnapFault)
+    → before ≡ prepended (bytes_of words) mid → length words + few ≤ count → at ≡ offset + 4 * length words
+    → LacksWords mid now at few why → LacksWords before now offset count why
+lacks_later before mid now words offset at few count why were fits is lack =
     let long = length-bytes_of words in
     let all = length-append (bytes_of words) lack.taken in
     record {
       taken = bytes_of words ++ lack.taken;
       bytes = taken_on before mid now (bytes_of words) lack.taken were lack.bytes;
       few = omega (arith, long, all, lack.few, fits);
-      says = short_at why (at + length lack.taken) (place + length (bytes_of words ++ lack.taken)) now
+      says = short_at why (at + length lack.taken) (offset + length (bytes_of words ++ lack.taken)) now
           (omega (arith, long, all, is)) lack.says;
     }

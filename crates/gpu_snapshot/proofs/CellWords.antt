@@ -15,7 +15,7 @@ use Rattle.snapshot_words.specs.declared.fault.SnapFault.{SnapFault}
 use Rattle.gpu_core.specs.Kept.{IsSet}
 use Rattle.gpu_snapshot.specs.Memories.{TakesCells, LacksWords, with_cells}
 use Rattle.gpu_snapshot.proofs.Bytes.{bytes_of-append, AreCells-append, alone, lacks_later}
-use Rattle.gpu_snapshot.proofs.Blocks.{cells_behind, none_behind}
+use Rattle.gpu_snapshot.proofs.Blocks.{cells_after, none_after}
 
 pub cell_words-append : (xs ys : List ℕ) → length xs % 2 ≡ 0 → cell_words (xs ++ ys) ≡ cell_words xs ++ cell_words ys
 cell_words-append [] ys even = refl
@@ -81,7 +81,7 @@ lanes_on block xs new c k word low high long within were took is_low is_high is 
     let set : take (2 * (k + 1)) new ≡ take (2 * k) xs ++ low ∷ high ∷ [] =
     rw (e, is) (two_set xs (2 * k) low high (omega (arith, long, within))) in
     let first = Some (drop (32 * c) block) in
-    rw (set, is_low, is_high) (subst (λ place. TakesCells first (Some (drop place block))
+    rw (set, is_low, is_high) (subst (λ offset. TakesCells first (Some (drop offset block))
     (take (2 * k) xs ++ word % 2 ^ 16 ∷ word / 2 ^ 16 ∷ [])) at
     (cells_on first (Some (drop (4 * (8 * c + k)) block)) (Some (drop (4 * (8 * c + k + 1)) block)) (take (2 * k) xs)
     (word % 2 ^ 16 ∷ word / 2 ^ 16 ∷ []) even were
@@ -114,12 +114,12 @@ chunk_on old new lanes start long set =
           get_or-take (start + 16) new k 0 (omega (arith, lt, all)) ∙ set.others k (inl before)
           ∙ sym (get_or_append_left (take start old) lanes 0 k (omega (arith, front, before))
           ∙ get_or-take start old k 0 before)
-      | inr behind ↦
-          let at : k ≡ start + (k - start) = omega (arith, behind) in
-          let few : k - start < 16 = omega (arith, behind, lt, all) in
+      | inr after ↦
+          let at : k ≡ start + (k - start) = omega (arith, after) in
+          let few : k - start < 16 = omega (arith, after, lt, all) in
           get_or-take (start + 16) new k 0 (omega (arith, lt, all)) ∙ ap (λ i. get_or new i 0) at
           ∙ set.written (k - start) few
-          ∙ sym (get_or-append_right (take start old) lanes start k 0 front behind)
+          ∙ sym (get_or-append_right (take start old) lanes start k 0 front after)
     ])
 
 pub chunk_taken : (before mid now : Option (List ℕ)) (old new lanes : List ℕ) (c : ℕ) → length lanes ≡ 16
@@ -151,7 +151,7 @@ pub row_ends : (before now : Option (List ℕ)) (m block : List ℕ) (y c : ℕ)
     → TakesCells before now (take (1024 * (y + 1)) m)
 row_ends before now m block y c long all takes =
     let e : 16 * (64 * y + c) ≡ 1024 * (y + 1) = omega (arith, all) in
-    let none = none_behind block (32 * c) now (omega (arith, long, all)) in
+    let none = none_after block (32 * c) now (omega (arith, long, all)) in
     rw (none, e) at takes
 
 -- sixteen more cells of a row
@@ -164,17 +164,18 @@ row_on before now old new lanes block y c long set were took =
     let e : 64 * y + c + 1 ≡ 64 * y + (c + 1) = omega arith in
     subst (λ n. TakesCells before (prepended (drop (32 * (c + 1)) block) now) (take (16 * n) new)) e
     (chunk_taken before (prepended (drop (32 * c) block) now) (prepended (drop (32 * (c + 1)) block) now) old new lanes
-    (64 * y + c) long set were (cells_behind (drop (32 * c) block) (drop (32 * (c + 1)) block) lanes now took))
+    (64 * y + c) long set were (cells_after (drop (32 * c) block) (drop (32 * (c + 1)) block) lanes now took))
 
 -- the block of a row breaks off
-pub row_lacks : (before mid now : Option (List ℕ)) (m : List ℕ) (place y rows : ℕ) (why : SnapFault)
+pub row_lacks : (before mid now : Option (List ℕ)) (m : List ℕ) (offset y rows : ℕ) (why : SnapFault)
     → length m ≡ 1024 * rows → y < rows → TakesCells before mid (take (1024 * y) m)
-    → LacksWords mid now (place + 2048 * y) 512 why → LacksWords before now place (512 * rows) why
-row_lacks before mid now m place y rows why all within were lack =
+    → LacksWords mid now (offset + 2048 * y) 512 why → LacksWords before now offset (512 * rows) why
+row_lacks before mid now m offset y rows why all within were lack =
     let n = length-take-le (1024 * y) m (omega (arith, all, within)) in
     let count : length (cell_words (take (1024 * y) m)) ≡ 512 * y =
     let w = count_words (take (1024 * y) m) (omega (arith, n)) in omega (arith, n, w) in
-    lacks_later before mid now (cell_words (take (1024 * y) m)) place (place + 2048 * y) 512 (512 * rows) why were.bytes
+    lacks_later before mid now (cell_words (take (1024 * y) m)) offset (offset + 2048 * y) 512
+    (512 * rows) why were.bytes
     (omega (arith, count, within)) (omega (arith, count)) lack
 
 pub others_on : (first mid now : RigState) → ◌≡◌ {A = RigState} mid (with_cells first mid.gpu.parts.m)
@@ -184,10 +185,10 @@ others_on first mid now were is =
     let f : RigState → RigState = λ r. with_cells r now.gpu.parts.m in is ∙ ap f were
 
 -- all cells were read, but not all of main memory
-pub ram_lacks : (before mid now : Option (List ℕ)) (m : List ℕ) (place at height : ℕ) (why : SnapFault)
-    → length m ≡ 1024 * height → at ≡ place + 2048 * height → TakesCells before mid m
-    → LacksWords mid now at 524288 why → LacksWords before now place (512 * height + 524288) why
-ram_lacks before mid now m place at height why long is were lack =
+pub ram_lacks : (before mid now : Option (List ℕ)) (m : List ℕ) (offset at height : ℕ) (why : SnapFault)
+    → length m ≡ 1024 * height → at ≡ offset + 2048 * height → TakesCells before mid m
+    → LacksWords mid now at 524288 why → LacksWords before now offset (512 * height + 524288) why
+ram_lacks before mid now m offset at height why long is were lack =
     let count = count_words m (omega (arith, long)) in
-    lacks_later before mid now (cell_words m) place at 524288 (512 * height + 524288) why were.bytes
+    lacks_later before mid now (cell_words m) offset at 524288 (512 * height + 524288) why were.bytes
     (omega (arith, count, long)) (omega (arith, count, long, is)) lack

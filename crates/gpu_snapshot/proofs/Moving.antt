@@ -11,15 +11,15 @@ use Rattle.gpu_capture.proofs.Steps.{split}
 use Rattle.gpu_taps.specs.Tally.{Reading}
 use Rattle.event_play.specs.Out.{out_bytes}
 use Rattle.event_play.specs.Playing.{AreAllNeeded, IsShort, IsReadTo, IsReadPast, DueAtEvent, DueAtEnd}
-use Rattle.event_play.specs.Playing.{DueWhileGathered, LacksBytes, SaysEnding}
+use Rattle.event_play.specs.Playing.{DueWhileBuffered, LacksBytes, SaysEnding}
 use Rattle.event_play.specs.Playing.{EndsPlay, plays, reads}
-use Rattle.event_play.specs.Replay.{Tale, Played, Script, played_script}
+use Rattle.event_play.specs.Replay.{Replay, Played, Script, played_script}
 use Rattle.event_play.specs.RigState.{RigState}
 use Rattle.event_play.specs.Streams.{Streams, streams}
 use Rattle.event_play.specs.declared.ending.Ending.{Ending}
 use Rattle.event_play.specs.declared.ending.Ending.TheVariants.{Done, Stopped, Faulted, NoPicture, WriteFailed}
 use Rattle.event_play.specs.declared.ending.Mode.{Mode}
-use Rattle.event_play.specs.Course.{among, at_end, behind_tale, course, tales}
+use Rattle.event_play.specs.PlayInput.{among, at_end, after_replay, play_input, replay_pair}
 
 abbrev captured_of : Script → Captured
 captured_of script = script.captured
@@ -36,7 +36,7 @@ StopsShort script front =
     (part more : List ℕ) → front ≡ part ++ more → (more ≡ [] → ⊥) → SaysNothing script part
 
 -- an ending of playing, in which these bytes were read first
-pub record EndsBehind (mode : Mode) (script : List ℕ → Script) (front : List ℕ) (before now : Streams)
+pub record EndsAfter (mode : Mode) (script : List ℕ → Script) (front : List ℕ) (before now : Streams)
     (rig : RigState) (ending : Ending) : Type 0 where
   pub plays : EndsPlay mode script before (at_end now rig) ending
   pub more : List ℕ
@@ -63,8 +63,8 @@ module _ (mode : Mode) (script inner : List ℕ → Script) (front : List ℕ)
       → AreNeeded (reads script) (events ++ event ∷ []) (front ++ taken)
   read_needed events event taken first next part more is some =
       elim (split front taken part more is) [
-        | inl behind ↦
-            let short = next behind.0 more behind.2 some in (
+        | inl after ↦
+            let short = next after.0 more after.2 some in (
               short.0,
               short.1,
               record {
@@ -72,7 +72,7 @@ module _ (mode : Mode) (script inner : List ℕ → Script) (front : List ℕ)
                 byte = short.2.byte;
                 fewer = short.2.fewer;
                 are = short.2.are;
-                is = ap (reads script) behind.1 ∙ ap captured_of (leads behind.0) ∙ short.2.is;
+                is = ap (reads script) after.1 ∙ ap captured_of (leads after.0) ∙ short.2.is;
               },
             )
         | inr inside ↦ none_of events event part (first part inside.0 inside.1 inside.2)
@@ -92,7 +92,7 @@ module _ (mode : Mode) (script inner : List ℕ → Script) (front : List ℕ)
         record { version = none.version; byte = none.byte; fewer = []; are = refl; is = none.is },
       )
 
-  read_moved : (t : Tale) (taken : List ℕ) (events : List Event) (event : Event) → StopsShort script front
+  read_moved : (t : Replay) (taken : List ℕ) (events : List Event) (event : Event) → StopsShort script front
       → IsReadTo inner t taken events event → IsReadTo script t (front ++ taken) events event
   read_moved t taken events event first was = record {
     first = was.first;
@@ -103,9 +103,9 @@ module _ (mode : Mode) (script inner : List ℕ → Script) (front : List ℕ)
     follows = was.follows;
   }
 
-  event_moved : (t start last : Tale) (taken due : List ℕ) → StopsShort script front
-      → DueAtEvent (course mode inner taken) (tales t last) (behind_tale start due)
-      → DueAtEvent (course mode script (front ++ taken)) (tales t last) (behind_tale start due)
+  event_moved : (t start last : Replay) (taken due : List ℕ) → StopsShort script front
+      → DueAtEvent (play_input mode inner taken) (replay_pair t last) (after_replay start due)
+      → DueAtEvent (play_input mode script (front ++ taken)) (replay_pair t last) (after_replay start due)
   event_moved t start last taken due first was = record {
     before = was.before;
     event = was.event;
@@ -114,10 +114,10 @@ module _ (mode : Mode) (script inner : List ℕ → Script) (front : List ℕ)
     lines = was.lines;
   }
 
-  past_moved : (t last : Tale) (taken : List ℕ) (before : List Event) (event : Event) (behind : List Event)
-      → StopsShort script front → IsReadPast inner (tales t last) taken (among before event behind)
-      → IsReadPast script (tales t last) (front ++ taken) (among before event behind)
-  past_moved t last taken before event behind first was = record {
+  past_moved : (t last : Replay) (taken : List ℕ) (before : List Event) (event : Event) (after : List Event)
+      → StopsShort script front → IsReadPast inner (replay_pair t last) taken (among before event after)
+      → IsReadPast script (replay_pair t last) (front ++ taken) (among before event after)
+  past_moved t last taken before event after first was = record {
     first = was.first;
     version = was.version;
     begins = λ rest. ap (λ (s : Script). s.first) (same taken rest) ∙ was.begins rest;
@@ -133,24 +133,24 @@ module _ (mode : Mode) (script inner : List ℕ → Script) (front : List ℕ)
     };
   }
 
-  gathered_moved : (t start last : Tale) (taken due : List ℕ) → StopsShort script front
-      → DueWhileGathered (course mode inner taken) (tales t last) (behind_tale start due)
-      → DueWhileGathered (course mode script (front ++ taken)) (tales t last) (behind_tale start due)
-  gathered_moved t start last taken due first was = record {
-    gathers = was.gathers;
+  buffered_moved : (t start last : Replay) (taken due : List ℕ) → StopsShort script front
+      → DueWhileBuffered (play_input mode inner taken) (replay_pair t last) (after_replay start due)
+      → DueWhileBuffered (play_input mode script (front ++ taken)) (replay_pair t last) (after_replay start due)
+  buffered_moved t start last taken due first was = record {
+    buffers = was.buffers;
     before = was.before;
     event = was.event;
-    behind = was.behind;
-    is_read = past_moved t last taken was.before was.event was.behind first was.is_read;
+    after = was.after;
+    is_read = past_moved t last taken was.before was.event was.after first was.is_read;
     next = was.next;
     next_is = was.next_is;
     start_is = was.start_is;
     lines = was.lines;
   }
 
-  end_moved : (t start last : Tale) (taken due : List ℕ)
-      → DueAtEnd heard (course mode inner taken) (tales t last) (behind_tale start due)
-      → DueAtEnd heard (course mode script (front ++ taken)) (tales t last) (behind_tale start due)
+  end_moved : (t start last : Replay) (taken due : List ℕ)
+      → DueAtEnd heard (play_input mode inner taken) (replay_pair t last) (after_replay start due)
+      → DueAtEnd heard (play_input mode script (front ++ taken)) (replay_pair t last) (after_replay start due)
   end_moved t start last taken due was = record {
     comes = λ rest. move taken rest ∙ was.comes rest;
     ends = was.ends;
@@ -159,17 +159,17 @@ module _ (mode : Mode) (script inner : List ℕ → Script) (front : List ℕ)
     bytes = was.bytes;
   }
 
-  lacks_moved : (t last : Tale) (taken : List ℕ) (number : ℕ) → StopsShort script front
-      → LacksBytes (course mode inner taken) (tales t last) number old now
-      → LacksBytes (course mode script (front ++ taken)) (tales t last) number new now
+  lacks_moved : (t last : Replay) (taken : List ℕ) (number : ℕ) → StopsShort script front
+      → LacksBytes (play_input mode inner taken) (replay_pair t last) number old now
+      → LacksBytes (play_input mode script (front ++ taken)) (replay_pair t last) number new now
   lacks_moved t last taken number first was = record {
     number_is = was.number_is;
     start = was.start;
     due = was.due;
-    place = elim was.place [
+    origin = elim was.origin [
       | inl event ↦ inl (event_moved t was.start last taken was.due first event)
       | inr later ↦ inr (elim later [
-        | inl lines ↦ inl (gathered_moved t was.start last taken was.due first lines)
+        | inl lines ↦ inl (buffered_moved t was.start last taken was.due first lines)
         | inr end ↦ inr (end_moved t was.start last taken was.due end)
       ])
     ];
@@ -177,9 +177,9 @@ module _ (mode : Mode) (script inner : List ℕ → Script) (front : List ℕ)
     prefix = λ rest. let p = was.prefix rest in (p.0, ap (out_bytes mode heard) (move taken rest) ∙ p.1);
   }
 
-  says_moved : (t last : Tale) (taken : List ℕ) (ending : Ending) → StopsShort script front
-      → SaysEnding (course mode inner taken) (tales t last) old now ending
-      → SaysEnding (course mode script (front ++ taken)) (tales t last) new now ending
+  says_moved : (t last : Replay) (taken : List ℕ) (ending : Ending) → StopsShort script front
+      → SaysEnding (play_input mode inner taken) (replay_pair t last) old now ending
+      → SaysEnding (play_input mode script (front ++ taken)) (replay_pair t last) new now ending
   says_moved t last taken Done first says = (λ rest. move taken rest ∙ says.0 rest, says.1, says.2)
   says_moved t last taken (NoPicture number) first says = (λ rest. move taken rest ∙ says.0 rest, says.1, says.2)
   says_moved t last taken (Stopped number (ReadFault byte)) first says =
@@ -194,7 +194,7 @@ module _ (mode : Mode) (script inner : List ℕ → Script) (front : List ℕ)
   says_moved t last taken (Stopped number (TooLong byte)) first says = (λ rest. move taken rest ∙ says.0 rest, says.1)
   says_moved t last taken (Faulted number fault) first says = (
     λ rest. let s = says.0 rest in
-        (ap (λ (r : Played). r.tale) (move taken rest) ∙ s.0, ap (λ (r : Played). r.ending) (move taken rest) ∙ s.1),
+        (ap (λ (r : Played). r.replay) (move taken rest) ∙ s.0, ap (λ (r : Played). r.ending) (move taken rest) ∙ s.1),
     says.1,
   )
   says_moved t last taken (WriteFailed number) first says = lacks_moved t last taken number first says
@@ -206,10 +206,10 @@ module _ (mode : Mode) (script inner : List ℕ → Script) (front : List ℕ)
       → AreAllNeeded (plays script) (front ++ taken)
   needed_moved taken first next part more is some =
       elim (split front taken part more is) [
-        | inl behind ↦
-            let e : plays script part ≡ plays inner behind.0 =
-            ap (plays script) behind.1 ∙ ap played_script (leads behind.0) in
-            rw e (next behind.0 more behind.2 some)
+        | inl after ↦
+            let e : plays script part ≡ plays inner after.0 =
+            ap (plays script) after.1 ∙ ap played_script (leads after.0) in
+            rw e (next after.0 more after.2 some)
         | inr inside ↦ let none = first part inside.0 inside.1 inside.2 in stops part none
       ]
 
@@ -220,9 +220,9 @@ module _ (mode : Mode) (script inner : List ℕ → Script) (front : List ℕ)
     taken = front ++ ends.taken;
     bytes = taken_on left mid now.left front ends.taken bytes ends.bytes;
     needed = needed_moved ends.taken needed ends.needed;
-    tale = ends.tale;
+    replay = ends.replay;
     last = ends.last;
-    says = says_moved ends.tale ends.last ends.taken ending needed ends.says;
+    says = says_moved ends.replay ends.last ends.taken ending needed ends.says;
     is_last = ends.is_last;
     stands = ends.stands;
     heard = ends.heard;
@@ -232,6 +232,6 @@ module _ (mode : Mode) (script inner : List ℕ → Script) (front : List ℕ)
 
   pub ends_moved : (rig : RigState) (ending : Ending) → left ≡ prepended front mid → StopsShort script front
       → steps_mid ≤ steps → EndsPlay mode inner old (at_end now rig) ending
-      → EndsBehind mode script front new now rig ending
+      → EndsAfter mode script front new now rig ending
   ends_moved rig ending bytes needed few ends =
       record { plays = moved rig ending bytes needed few ends; more = ends.taken; taken_is = refl }

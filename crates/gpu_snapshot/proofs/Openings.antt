@@ -5,12 +5,12 @@ use Rattle.std.proofs.Common.{append_assoc}
 use Rattle.std.proofs.Math.Seq.{take-append_seam, drop-append_seam}
 use Rattle.dev_io.proofs.Parts.{taken_on}
 use Rattle.gpu_capture.specs.Capture.{IsVersion}
-use Rattle.gpu_capture.specs.Reader.{tag_due}
+use Rattle.gpu_capture.specs.Reader.{tag_expected}
 use Rattle.gpu_capture.specs.State.{ReaderState}
 use Rattle.gpu_capture.specs.declared.event.Stop.{Stop}
 use Rattle.gpu_capture.specs.declared.event.Stop.TheVariants.{End, NotCapture, BadRecord, TooLong, Truncated, ReadFault}
 use Rattle.gpu_capture.proofs.Steps.{split}
-use Rattle.event_play.specs.Replay.{Tale, raised}
+use Rattle.event_play.specs.Replay.{Replay, raised}
 use Rattle.event_play.specs.RigState.{RigState, first_rig, StandsFor}
 use Rattle.snapshot_words.specs.Outline.{snap_bytes}
 use Rattle.snapshot_words.specs.Reading.{Found, Whole, Short, Bad, Snapshot, state_from}
@@ -20,10 +20,10 @@ use Rattle.snapshot_words.specs.declared.fault.SnapFault.TheVariants as fault
 use Rattle.snapshot_words.proofs.Gathering.{part_shorter}
 use Rattle.gpu_snapshot.specs.Head.{file_head, TakesHead, StopsInHead, SaysNoHead}
 use Rattle.gpu_snapshot.specs.Intake.{intake}
-use Rattle.gpu_snapshot.specs.Opened.{BreaksOff, opened, behind_head, opened_state}
+use Rattle.gpu_snapshot.specs.Opened.{BreaksOff, opened, after_head, opened_state}
 use Rattle.gpu_snapshot.specs.Opening.{OpensCapture, OpensState, Refuses, SaysRefusal, AreNeeded, IsTooShort}
 use Rattle.gpu_snapshot.specs.Opening.{opening_cost}
-use Rattle.gpu_snapshot.specs.Restored.{Restores, StopsInState, first_place, state_cost}
+use Rattle.gpu_snapshot.specs.Restored.{Restores, StopsInState, first_offset, state_cost}
 use Rattle.gpu_snapshot.specs.declared.head.FileHead.TheVariants as head
 use Rattle.gpu_snapshot.proofs.Heads.{snapshot_is}
 
@@ -35,14 +35,14 @@ head_enough first bytes long = let all = length-append first bytes in grind (ari
 head_of_all : (first bytes : List ℕ) → length first ≡ 8 → take 8 (first ++ bytes) ≡ first
 head_of_all first bytes long = ap (λ n. take n (first ++ bytes)) (sym long) ∙ take-append_seam first bytes
 
-behind_all : (first bytes : List ℕ) → length first ≡ 8 → drop 8 (first ++ bytes) ≡ bytes
-behind_all first bytes long = ap (λ n. drop n (first ++ bytes)) (sym long) ∙ drop-append_seam first bytes
+after_all : (first bytes : List ℕ) → length first ≡ 8 → drop 8 (first ++ bytes) ≡ bytes
+after_all first bytes long = ap (λ n. drop n (first ++ bytes)) (sym long) ∙ drop-append_seam first bytes
 
-pub opened_behind : (first bytes : List ℕ) → length first ≡ 8 → opened (first ++ bytes)
-    ≡ behind_head (file_head first) bytes
+pub opened_after : (first bytes : List ℕ) → length first ≡ 8 → opened (first ++ bytes)
+    ≡ after_head (file_head first) bytes
 unfolding opened
-opened_behind first bytes long =
-    rw (head_enough first bytes long, head_of_all first bytes long, behind_all first bytes long) refl
+opened_after first bytes long =
+    rw (head_enough first bytes long, head_of_all first bytes long, after_all first bytes long) refl
 
 pub opened_short : (bytes : List ℕ) → length bytes < 8 → opened bytes ≡ BreaksOff (length bytes)
 unfolding opened
@@ -52,7 +52,7 @@ cost_of_state : (first bytes : List ℕ) → length first ≡ 8 → file_head fi
     → opening_cost (first ++ bytes) ≡ state_cost bytes
 unfolding opening_cost
 cost_of_state first bytes long is =
-    rw (head_enough first bytes long, head_of_all first bytes long, behind_all first bytes long, is) refl
+    rw (head_enough first bytes long, head_of_all first bytes long, after_all first bytes long, is) refl
 
 -- ---- each byte is needed
 
@@ -63,21 +63,21 @@ head_needed taken few part more is some =
     rw (opened_short part (omega (arith, short, few))) tt
 
 too_short : (found : Found Snapshot) → IsShort found → IsTooShort (opened_state found)
-too_short (Short place) is = tt
-too_short (Whole s place rest) is = absurd is
-too_short (Bad place word) is = absurd is
+too_short (Short offset) is = tt
+too_short (Whole s offset rest) is = absurd is
+too_short (Bad offset word) is = absurd is
 
 -- a magic number, and what is needed of a state
 state_needed : (first taken : List ℕ) → length first ≡ 8 → file_head first ≡ Ok head.Snapshot
-    → AreNeededBy (state_from first_place) taken
+    → AreNeededBy (state_from first_offset) taken
     → AreNeeded (first ++ taken)
 state_needed first taken long head_is needed part more is some =
     elim (split first taken part more is) [
-      | inl behind ↦
-          let e : opened part ≡ opened_state (state_from first_place behind.0) =
-          ap opened behind.1 ∙ opened_behind first behind.0 long
-          ∙ ap (λ h. behind_head h behind.0) head_is in
-          rw e (too_short (state_from first_place behind.0) (needed behind.0 more behind.2 some))
+      | inl after ↦
+          let e : opened part ≡ opened_state (state_from first_offset after.0) =
+          ap opened after.1 ∙ opened_after first after.0 long
+          ∙ ap (λ h. after_head h after.0) head_is in
+          rw e (too_short (state_from first_offset after.0) (needed after.0 more after.2 some))
       | inr inside ↦
           let short = part_shorter first part inside.0 inside.1 inside.2 in
           rw (opened_short part (omega (arith, short, long))) tt
@@ -87,8 +87,8 @@ state_needed first taken long head_is needed part more is some =
 
 refused_head : (stop : Stop) (taken : List ℕ) (now : Option (List ℕ)) → SaysNoHead stop taken now
     → SaysRefusal (fault.Stop stop) taken now × (length taken ≤ 8)
-refused_head (NotCapture place) taken now says =
-    (λ rest. opened_behind taken rest says.0 ∙ ap (λ h. behind_head h rest) says.1, omega (arith, says.0))
+refused_head (NotCapture offset) taken now says =
+    (λ rest. opened_after taken rest says.0 ∙ ap (λ h. after_head h rest) says.1, omega (arith, says.0))
 refused_head (Truncated byte) taken now says =
     ((opened_short taken says.0 ∙ ap BreaksOff (sym says.1), says.2), omega (arith, says.0))
 refused_head (ReadFault byte) taken now says =
@@ -113,8 +113,8 @@ refuses_head before now steps stop stops =
 
 pub opens_capture : (before now : Option (List ℕ)) (steps version : ℕ) (rig : RigState) (reader : ReaderState)
     → TakesHead before now (head.Capture version) → IsVersion version
-    → reader.progress ≡ tag_due version 8 → reader.stop ≡ None
-    → ((t : Tale) → StandsFor first_rig t → StandsFor rig (raised t version)) → rig.played ≡ 0
+    → reader.progress ≡ tag_expected version 8 → reader.stop ≡ None
+    → ((t : Replay) → StandsFor first_rig t → StandsFor rig (raised t version)) → rig.played ≡ 0
     → OpensCapture (intake before steps) (intake now steps) rig reader
 opens_capture before now steps version rig reader takes known progress stop stands played = record {
   version = version;
@@ -122,7 +122,7 @@ opens_capture before now steps version rig reader takes known progress stop stan
   taken = takes.taken;
   bytes = takes.bytes;
   needed = head_needed takes.taken (let e = takes.long in omega (arith, e));
-  says = λ rest. opened_behind takes.taken rest takes.long ∙ ap (λ h. behind_head h rest) takes.is;
+  says = λ rest. opened_after takes.taken rest takes.long ∙ ap (λ h. after_head h rest) takes.is;
   reader_is =
       let with_stop : Option Stop → ReaderState = λ s. record { progress = reader.progress; stop = s } in
       ap with_stop stop ∙ ap (λ p. record { progress = p; stop = None }) progress;
@@ -140,14 +140,14 @@ opens_state before mid now steps steps_now rig reader takes state =
     let spelled = snap_bytes state.snapshot.outline state.snapshot.m state.snapshot.ram in
     record {
       snapshot = state.snapshot;
-      place = state.place;
+      offset = state.offset;
       taken = takes.taken ++ spelled;
       taken_is = ap (λ first. first ++ spelled) (snapshot_is takes.taken takes.long takes.is);
       bytes = taken_on before mid now takes.taken spelled takes.bytes state.bytes;
       needed = state_needed takes.taken spelled takes.long takes.is state.needed;
       says = λ rest. ap opened (append_assoc takes.taken spelled rest)
-          ∙ opened_behind takes.taken (spelled ++ rest) takes.long
-          ∙ ap (λ h. behind_head h (spelled ++ rest)) takes.is ∙ ap opened_state (state.says rest);
+          ∙ opened_after takes.taken (spelled ++ rest) takes.long
+          ∙ ap (λ h. after_head h (spelled ++ rest)) takes.is ∙ ap opened_state (state.says rest);
       reader_is = state.reader_is;
       rig_is = state.rig_is;
       stands = state.stands;
@@ -159,15 +159,15 @@ opens_state before mid now steps steps_now rig reader takes state =
     }
 
 refused_state : (why : SnapFault) (first taken : List ℕ) (now : Option (List ℕ)) → length first ≡ 8
-    → file_head first ≡ Ok head.Snapshot → SaysFault why (state_from first_place) taken now
+    → file_head first ≡ Ok head.Snapshot → SaysFault why (state_from first_offset) taken now
     → SaysRefusal why (first ++ taken) now
 refused_state (fault.Bad byte word) first taken now long is says =
-    λ rest. ap opened (append_assoc first taken rest) ∙ opened_behind first (taken ++ rest) long
-    ∙ ap (λ h. behind_head h (taken ++ rest)) is ∙ ap opened_state (says rest)
+    λ rest. ap opened (append_assoc first taken rest) ∙ opened_after first (taken ++ rest) long
+    ∙ ap (λ h. after_head h (taken ++ rest)) is ∙ ap opened_state (says rest)
 refused_state (fault.Stop (Truncated byte)) first taken now long is says =
-    (opened_behind first taken long ∙ ap (λ h. behind_head h taken) is ∙ ap opened_state says.0, says.1)
+    (opened_after first taken long ∙ ap (λ h. after_head h taken) is ∙ ap opened_state says.0, says.1)
 refused_state (fault.Stop (ReadFault byte)) first taken now long is says =
-    opened_behind first taken long ∙ ap (λ h. behind_head h taken) is ∙ ap opened_state says
+    opened_after first taken long ∙ ap (λ h. after_head h taken) is ∙ ap opened_state says
 refused_state (fault.Stop End) first taken now long is says = absurd says
 refused_state (fault.Stop (NotCapture byte)) first taken now long is says = absurd says
 refused_state (fault.Stop (BadRecord byte word)) first taken now long is says = absurd says

@@ -34,9 +34,9 @@ first_stands = record { gpu = refl; ram = refl; running = refl }
 tall_long : (m : List ℕ) → length m ≤ 1024 * tall_height → length (tall m) ≡ 1024 * tall_height
 unfolding tall
 tall_long m few =
-    let behind = zeros_long (1024 * tall_height - length m) in
+    let after = zeros_long (1024 * tall_height - length m) in
     let both = length-append m (rows_behind tall_height m) in
-    omega (arith, behind, both, few)
+    omega (arith, after, both, few)
 
 tall_rows : length (tall_machine first_machine).gpu.parts.m ≡ 1024 * tall_height
 unfolding first_machine first_state tall_state
@@ -63,9 +63,9 @@ no_zeros m = append-nil m
 tall_again : (m : List ℕ) → tall (tall m) ≡ tall m
 unfolding tall
 tall_again m =
-    let behind = zeros_long (1024 * tall_height - length m) in
+    let after = zeros_long (1024 * tall_height - length m) in
     let both = length-append m (rows_behind tall_height m) in
-    let none : 1024 * tall_height - length (m ++ rows_behind tall_height m) ≡ 0 = omega (arith, behind, both) in
+    let none : 1024 * tall_height - length (m ++ rows_behind tall_height m) ≡ 0 = omega (arith, after, both) in
     ap (λ n. (m ++ rows_behind tall_height m) ++ zeros n) none
     ∙ no_zeros (m ++ rows_behind tall_height m)
 

@@ -11,7 +11,7 @@ use Rattle.snapshot_words.specs.Taking.{IsWord}
 use Rattle.snapshot_words.specs.declared.fault.SnapFault.{SnapFault}
 use Rattle.gpu_snapshot.specs.Memories.{TakesWords, LacksWords}
 use Rattle.gpu_snapshot.proofs.Bytes.{bytes_of-append, AreWords-append, alone, lacks_later}
-use Rattle.gpu_snapshot.proofs.Blocks.{none_behind, word_behind}
+use Rattle.gpu_snapshot.proofs.Blocks.{none_after, word_after}
 
 take_set_on : (xs : List ℕ) (i w : ℕ) → i < length xs → take (suc i) (slice_set xs i w) ≡ take i xs ++ w ∷ []
 take_set_on [] i w h = absurd (omega arith)
@@ -68,7 +68,7 @@ pub block_ends : (before now : Option (List ℕ)) (ram block : List ℕ) (b k : 
     → TakesWords before now (take (512 * (b + 1)) ram)
 block_ends before now ram block b k long all takes =
     let e : 512 * b + k ≡ 512 * (b + 1) = omega (arith, all) in
-    let none = none_behind block (4 * k) now (omega (arith, long, all)) in
+    let none = none_after block (4 * k) now (omega (arith, long, all)) in
     rw (none, e) at takes
 
 -- one more word of a block
@@ -82,16 +82,16 @@ block_on before now ram new block b k word long within were took is =
     subst (λ n. TakesWords before (prepended (drop (4 * (k + 1)) block) now) (take n new)) e
     (word_taken before (prepended (drop (4 * k) block) now) (prepended (drop (4 * (k + 1)) block) now) ram new
     (512 * b + k) word long within were
-    (word_behind (drop (4 * k) block) (drop (4 * (k + 1)) block) word now took) is)
+    (word_after (drop (4 * k) block) (drop (4 * (k + 1)) block) word now took) is)
 
 -- a block breaks off
-pub block_lacks : (before mid now : Option (List ℕ)) (ram : List ℕ) (place b blocks : ℕ) (why : SnapFault)
+pub block_lacks : (before mid now : Option (List ℕ)) (ram : List ℕ) (offset b blocks : ℕ) (why : SnapFault)
     → length ram ≡ 524288 → b < blocks → 512 * blocks ≡ 524288 → TakesWords before mid (take (512 * b) ram)
-    → LacksWords mid now (place + 2048 * b) 512 why → LacksWords before now place (512 * blocks) why
-block_lacks before mid now ram place b blocks why long within all were lack =
+    → LacksWords mid now (offset + 2048 * b) 512 why → LacksWords before now offset (512 * blocks) why
+block_lacks before mid now ram offset b blocks why long within all were lack =
     let count : length (take (512 * b) ram) ≡ 512 * b =
     length-take-le (512 * b) ram (omega (arith, long, within, all)) in
-    lacks_later before mid now (take (512 * b) ram) place (place + 2048 * b) 512 (512 * blocks) why were.bytes
+    lacks_later before mid now (take (512 * b) ram) offset (offset + 2048 * b) 512 (512 * blocks) why were.bytes
     (omega (arith, count, within)) (omega (arith, count)) lack
 
 pub all_taken : (before now : Option (List ℕ)) (ram : List ℕ) (n : ℕ) → n ≡ length ram

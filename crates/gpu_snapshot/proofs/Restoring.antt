@@ -5,7 +5,7 @@ use Rattle.dev_io.proofs.Parts.{taken_on}
 use Rattle.gp0_words.specs.Items.{pending_behind}
 use Rattle.gp0_words.specs.Resuming.{list_of}
 use Rattle.gp0_words.specs.declared.pending.Pending.{Pending}
-use Rattle.gpu_capture.specs.Reader.{tag_due}
+use Rattle.gpu_capture.specs.Reader.{tag_expected}
 use Rattle.gpu_capture.specs.State.{ReaderState}
 use Rattle.gpu_capture.specs.declared.progress.Progress.{Progress}
 use Rattle.gpu_capture.specs.declared.event.Stop.{Stop}
@@ -24,26 +24,26 @@ use Rattle.snapshot_words.specs.declared.outline.Outline.{Outline}
 use Rattle.snapshot_words.proofs.Chain.{short_then}
 use Rattle.gpu_snapshot.specs.Intake.{intake}
 use Rattle.gpu_snapshot.specs.Memories.{TakesMemories, LacksWords, SaysShort, with_memories}
-use Rattle.gpu_snapshot.specs.Restored.{Restores, StopsInState, HoldsOutline, rig_in, machine_in, first_place}
-use Rattle.gpu_snapshot.specs.Restored.{reader_behind, version_behind, state_cost}
+use Rattle.gpu_snapshot.specs.Restored.{Restores, StopsInState, HoldsOutline, rig_in, machine_in, first_offset}
+use Rattle.gpu_snapshot.specs.Restored.{reader_after, version_after, state_cost}
 use Rattle.gpu_snapshot.proofs.States.{state_lacks, whole_needed, short_needed}
 use Rattle.gpu_snapshot.proofs.MemoriesBack.{memories_back}
 
 -- ---- a fault in the outline
 
-outline_short : (taken : List ℕ) (place : ℕ) → outline_from first_place taken ≡ Short place
-    → state_from first_place taken ≡ Short place
+outline_short : (taken : List ℕ) (offset : ℕ) → outline_from first_offset taken ≡ Short offset
+    → state_from first_offset taken ≡ Short offset
 unfolding state_from
-outline_short taken place is = rw is refl
+outline_short taken offset is = rw is refl
 
-outline_bad : (taken : List ℕ) (place word : ℕ) → outline_from first_place taken ≡ Bad place word
-    → state_from first_place taken ≡ Bad place word
+outline_bad : (taken : List ℕ) (offset word : ℕ) → outline_from first_offset taken ≡ Bad offset word
+    → state_from first_offset taken ≡ Bad offset word
 unfolding state_from
-outline_bad taken place word is = rw is refl
+outline_bad taken offset word is = rw is refl
 
 state_says : (why : SnapFault) (taken : List ℕ) (now : Option (List ℕ))
-    → SaysFault why (outline_from first_place) taken now
-    → SaysFault why (state_from first_place) taken now
+    → SaysFault why (outline_from first_offset) taken now
+    → SaysFault why (state_from first_offset) taken now
 state_says (fault.Bad byte word) taken now says = λ rest. outline_bad (taken ++ rest) byte word (says rest)
 state_says (fault.Stop (Truncated byte)) taken now says = (outline_short taken byte says.0, says.1)
 state_says (fault.Stop (ReadFault byte)) taken now says = outline_short taken byte says
@@ -52,14 +52,14 @@ state_says (fault.Stop (NotCapture byte)) taken now says = absurd says
 state_says (fault.Stop (BadRecord byte word)) taken now says = absurd says
 state_says (fault.Stop (TooLong byte)) taken now says = absurd says
 
-outline_needed : (taken : List ℕ) → AreNeeded (outline_from first_place) taken
-    → AreNeeded (state_from first_place) taken
+outline_needed : (taken : List ℕ) → AreNeeded (outline_from first_offset) taken
+    → AreNeeded (state_from first_offset) taken
 unfolding state_from
 outline_needed taken needed part more is some =
-    short_then (outline_from first_place part) memories_from (needed part more is some)
+    short_then (outline_from first_offset part) memories_from (needed part more is some)
 
 pub stops_outline : (before now : Option (List ℕ)) (steps : ℕ) (why : SnapFault)
-    → Stops (outline_from first_place) before now why → StopsInState (intake before steps) (intake now steps) why
+    → Stops (outline_from first_offset) before now why → StopsInState (intake before steps) (intake now steps) why
 stops_outline before now steps why stops =
     record {
       taken = stops.taken;
@@ -71,34 +71,34 @@ stops_outline before now steps why stops =
 
 -- ---- a fault in the memories
 
-short_says : (why : SnapFault) (place : ℕ) (taken : List ℕ) (now : Option (List ℕ)) → SaysShort why place now
-    → state_from first_place taken ≡ Short place → SaysFault why (state_from first_place) taken now
-short_says (fault.Stop (Truncated byte)) place taken now says is = (rw says.0 is, says.1)
-short_says (fault.Stop (ReadFault byte)) place taken now says is = rw says is
-short_says (fault.Stop End) place taken now says is = absurd says
-short_says (fault.Stop (NotCapture byte)) place taken now says is = absurd says
-short_says (fault.Stop (BadRecord byte word)) place taken now says is = absurd says
-short_says (fault.Stop (TooLong byte)) place taken now says is = absurd says
-short_says (fault.Bad byte word) place taken now says is = absurd says
+short_says : (why : SnapFault) (offset : ℕ) (taken : List ℕ) (now : Option (List ℕ)) → SaysShort why offset now
+    → state_from first_offset taken ≡ Short offset → SaysFault why (state_from first_offset) taken now
+short_says (fault.Stop (Truncated byte)) offset taken now says is = (rw says.0 is, says.1)
+short_says (fault.Stop (ReadFault byte)) offset taken now says is = rw says is
+short_says (fault.Stop End) offset taken now says is = absurd says
+short_says (fault.Stop (NotCapture byte)) offset taken now says is = absurd says
+short_says (fault.Stop (BadRecord byte word)) offset taken now says is = absurd says
+short_says (fault.Stop (TooLong byte)) offset taken now says is = absurd says
+short_says (fault.Bad byte word) offset taken now says is = absurd says
 
-cost_is : (bytes rest : List ℕ) (o : Outline) (place : ℕ) → outline_from first_place bytes ≡ Whole o place rest
+cost_is : (bytes rest : List ℕ) (o : Outline) (offset : ℕ) → outline_from first_offset bytes ≡ Whole o offset rest
     → state_cost bytes ≡ 64 * o.regs.height
 unfolding state_cost
-cost_is bytes rest o place is = rw is refl
+cost_is bytes rest o offset is = rw is refl
 
-pub stops_memories : (before mid now : Option (List ℕ)) (steps steps_now place : ℕ) (o : Outline) (why : SnapFault)
-    → TakesOutline before mid first_place place o → LacksWords mid now place (512 * o.regs.height + 524288) why
+pub stops_memories : (before mid now : Option (List ℕ)) (steps steps_now offset : ℕ) (o : Outline) (why : SnapFault)
+    → TakesOutline before mid first_offset offset o → LacksWords mid now offset (512 * o.regs.height + 524288) why
     → steps_now ≤ steps + 64 * o.regs.height → StopsInState (intake before steps) (intake now steps_now) why
-stops_memories before mid now steps steps_now place o why takes lacks few =
+stops_memories before mid now steps steps_now offset o why takes lacks few =
     let front = bytes_of (outline_words o) in
-    let is = state_lacks front lacks.taken o place (takes.says lacks.taken) lacks.few in
+    let is = state_lacks front lacks.taken o offset (takes.says lacks.taken) lacks.few in
     record {
       taken = front ++ lacks.taken;
       bytes = taken_on before mid now front lacks.taken takes.bytes lacks.bytes;
-      needed = short_needed (front ++ lacks.taken) (place + length lacks.taken) is;
-      says = short_says why (place + length lacks.taken) (front ++ lacks.taken) now lacks.says is;
+      needed = short_needed (front ++ lacks.taken) (offset + length lacks.taken) is;
+      says = short_says why (offset + length lacks.taken) (front ++ lacks.taken) now lacks.says is;
       cost = λ rest.
-          let e = cost_is ((front ++ lacks.taken) ++ rest) (lacks.taken ++ rest) o place
+          let e = cost_is ((front ++ lacks.taken) ++ rest) (lacks.taken ++ rest) o offset
           (rw (append_assoc front lacks.taken rest) (takes.says (lacks.taken ++ rest))) in
           omega (arith, e, few);
     }
@@ -119,21 +119,21 @@ snap_split o m ram rest =
     ∙ ap (λ bytes. bytes_of (outline_words o) ++ bytes) (append_assoc cells (bytes_of ram) rest)
 
 -- an outline, and memories after it
-state_back : (front bytes rest : List ℕ) (o : Outline) (m ram : List ℕ) (place : ℕ)
-    → outline_from first_place (front ++ bytes) ≡ Whole o place bytes
-    → memories_from o place bytes
-    ≡ Whole (record { outline = o; m = m; ram = ram }) (place + 4 * (512 * o.regs.height + 524288)) rest
-    → state_from first_place (front ++ bytes)
-    ≡ Whole (record { outline = o; m = m; ram = ram }) (place + 4 * (512 * o.regs.height + 524288)) rest
+state_back : (front bytes rest : List ℕ) (o : Outline) (m ram : List ℕ) (offset : ℕ)
+    → outline_from first_offset (front ++ bytes) ≡ Whole o offset bytes
+    → memories_from o offset bytes
+    ≡ Whole (record { outline = o; m = m; ram = ram }) (offset + 4 * (512 * o.regs.height + 524288)) rest
+    → state_from first_offset (front ++ bytes)
+    ≡ Whole (record { outline = o; m = m; ram = ram }) (offset + 4 * (512 * o.regs.height + 524288)) rest
 unfolding state_from
-state_back front bytes rest o m ram place is memories = rw is memories
+state_back front bytes rest o m ram offset is memories = rw is memories
 
-pub reader_of : (reader : ReaderState) (version height place : ℕ) → reader.progress ≡ tag_due version place
-    → reader.stop ≡ None → version ≡ version_behind height → reader ≡ reader_behind height place
-reader_of reader version height place progress stop is =
+pub reader_of : (reader : ReaderState) (version height offset : ℕ) → reader.progress ≡ tag_expected version offset
+    → reader.stop ≡ None → version ≡ version_after height → reader ≡ reader_after height offset
+reader_of reader version height offset progress stop is =
     let with_stop : Progress → ReaderState = λ p. record { progress = p; stop = None } in
     let with_progress : Option Stop → ReaderState = λ s. record { progress = reader.progress; stop = s } in
-    ap with_progress stop ∙ ap with_stop (progress ∙ ap (λ v. tag_due v place) is)
+    ap with_progress stop ∙ ap with_stop (progress ∙ ap (λ v. tag_expected v offset) is)
 
 -- the rig is the state
 whole_rig : (first rig : RigState) (o : Outline) (m ram : List ℕ) → HoldsOutline first o
@@ -164,35 +164,35 @@ stands_for rig s is left =
       running = sym (ap (λ (r : RigState). r.running) is);
     }
 
-module _ (before mid now : Option (List ℕ)) (steps steps_now place behind : ℕ) (first rig : RigState) (o : Outline)
-    (reader : ReaderState) (takes : TakesOutline before mid first_place place o)
+module _ (before mid now : Option (List ℕ)) (steps steps_now offset after : ℕ) (first rig : RigState) (o : Outline)
+    (reader : ReaderState) (takes : TakesOutline before mid first_offset offset o)
     (holds : HoldsOutline first o)
     (memories : TakesMemories mid now rig.gpu.parts.m rig.ram)
     (is : rig ≡ with_memories first rig.gpu.parts.m rig.ram) (rows : length rig.gpu.parts.m ≡ 1024 * o.regs.height)
-    (long : length rig.ram ≡ 524288) (moved : behind ≡ place + 4 * (512 * o.regs.height + 524288))
-    (reader_is : reader ≡ reader_behind o.regs.height behind) (few : steps_now ≤ steps + 64 * o.regs.height) where
+    (long : length rig.ram ≡ 524288) (moved : after ≡ offset + 4 * (512 * o.regs.height + 524288))
+    (reader_is : reader ≡ reader_after o.regs.height after) (few : steps_now ≤ steps + 64 * o.regs.height) where
   abbrev whole : Snapshot
   whole = record { outline = o; m = rig.gpu.parts.m; ram = rig.ram }
 
   abbrev spelled : List ℕ
   spelled = snap_bytes o rig.gpu.parts.m rig.ram
 
-  says : (rest : List ℕ) → state_from first_place (spelled ++ rest) ≡ Whole whole behind rest
+  says : (rest : List ℕ) → state_from first_offset (spelled ++ rest) ≡ Whole whole after rest
   says rest =
       rw (snap_split o rig.gpu.parts.m rig.ram rest)
       (state_back (bytes_of (outline_words o)) (bytes_of (cell_words rig.gpu.parts.m) ++ (bytes_of rig.ram ++ rest))
       rest o
-      rig.gpu.parts.m rig.ram place (takes.says (bytes_of (cell_words rig.gpu.parts.m) ++ (bytes_of rig.ram ++ rest)))
-      (memories_back o rig.gpu.parts.m rig.ram place rest rows memories.cells long memories.words)
+      rig.gpu.parts.m rig.ram offset (takes.says (bytes_of (cell_words rig.gpu.parts.m) ++ (bytes_of rig.ram ++ rest)))
+      (memories_back o rig.gpu.parts.m rig.ram offset rest rows memories.cells long memories.words)
       ∙ ap (λ p. Whole whole p rest) (sym moved))
 
   pub restores : Restores (intake before steps) (intake now steps_now) rig reader
   restores = record {
     snapshot = whole;
-    place = behind;
+    offset = after;
     bytes = rw (snap_is o rig.gpu.parts.m rig.ram) (taken_on before mid now (bytes_of (outline_words o))
         (bytes_of (cell_words rig.gpu.parts.m) ++ bytes_of rig.ram) takes.bytes memories.bytes);
-    needed = whole_needed spelled whole behind (ap (state_from first_place) (sym (append-nil spelled)) ∙ says []);
+    needed = whole_needed spelled whole after (ap (state_from first_offset) (sym (append-nil spelled)) ∙ says []);
     says = says;
     rig_is = whole_rig first rig o rig.gpu.parts.m rig.ram holds is;
     stands = stands_for rig whole (whole_rig first rig o rig.gpu.parts.m rig.ram holds is) (leaves first o holds);
@@ -201,5 +201,5 @@ module _ (before mid now : Option (List ℕ)) (steps steps_now place behind : �
     cost_is = λ rest.
         let more = bytes_of (cell_words rig.gpu.parts.m) ++ (bytes_of rig.ram ++ rest) in
         rw (snap_split o rig.gpu.parts.m rig.ram rest)
-        (cost_is (bytes_of (outline_words o) ++ more) more o place (takes.says more));
+        (cost_is (bytes_of (outline_words o) ++ more) more o offset (takes.says more));
   }

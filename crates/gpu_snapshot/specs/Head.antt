@@ -17,7 +17,7 @@ known_heads = heads ++ snapshot_head ∷ []
 -- captures have the first numbers
 abbrev pub numbered_head : Result ℕ ℕ → Result FileHead ℕ
 numbered_head (Ok number) = Ok (if number == 3 then Snapshot else Capture (number + 1))
-numbered_head (Err place) = Err place
+numbered_head (Err offset) = Err offset
 
 -- the kind of a file by its first 8 bytes, or the index of the first byte that fits no known magic number
 unfoldable pub file_head : List ℕ → Result FileHead ℕ
@@ -39,7 +39,7 @@ pub record TakesHead (before now : Option (List ℕ)) (head : FileHead) : Type 0
 
 -- why these bytes are no magic number
 abbrev pub SaysNoHead : Stop → (taken : List ℕ) → (now : Option (List ℕ)) → Type 0
-SaysNoHead (NotCapture place) taken now = (length taken ≡ 8) × (file_head taken ≡ Err place)
+SaysNoHead (NotCapture offset) taken now = (length taken ≡ 8) × (file_head taken ≡ Err offset)
 SaysNoHead (Truncated byte) taken now = (length taken < 8) × (byte ≡ length taken) × IsAtEnd now
 SaysNoHead (ReadFault byte) taken now = (length taken < 8) × (byte ≡ length taken)
 SaysNoHead stop taken now = ⊥

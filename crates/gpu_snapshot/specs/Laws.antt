@@ -37,8 +37,8 @@ pub record IsSpelledWhole (s : Snapshot) : Type 0 where
 -- opening the bytes gives a state whose machine continues as this one, after the same number of events
 pub record OpensAlike (s : Machine) (played : ℕ) (bytes rest : List ℕ) : Type 0 where
   pub snapshot : Snapshot
-  pub place : ℕ
-  pub opens : opened bytes ≡ Restored snapshot place rest
+  pub offset : ℕ
+  pub opens : opened bytes ≡ Restored snapshot offset rest
   pub alike : StandAlike s (machine_in snapshot)
   pub played_is : snapshot.outline.played ≡ played
 

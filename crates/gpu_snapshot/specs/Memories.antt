@@ -50,19 +50,19 @@ pub record HasRows (rig : RigState) (rows : ℕ) : Type 0 where
   pub height : rig.gpu.parts.regs.height ≡ rows
   pub most : rows ≤ 1024
 
--- why reading ended within a word, at byte offset `place`
-abbrev pub SaysShort : SnapFault → (place : ℕ) → (now : Option (List ℕ)) → Type 0
-SaysShort (fault.Stop (Truncated byte)) place now = (byte ≡ place) × IsAtEnd now
-SaysShort (fault.Stop (ReadFault byte)) place now = byte ≡ place
-SaysShort (fault.Stop other) place now = ⊥
-SaysShort (fault.Bad byte word) place now = ⊥
+-- why reading ended within a word, at byte offset `offset`
+abbrev pub SaysShort : SnapFault → (offset : ℕ) → (now : Option (List ℕ)) → Type 0
+SaysShort (fault.Stop (Truncated byte)) offset now = (byte ≡ offset) × IsAtEnd now
+SaysShort (fault.Stop (ReadFault byte)) offset now = byte ≡ offset
+SaysShort (fault.Stop other) offset now = ⊥
+SaysShort (fault.Bad byte word) offset now = ⊥
 
--- `count` words were wanted from byte offset `place` on, and fewer bytes were read
-pub record LacksWords (before now : Option (List ℕ)) (place count : ℕ) (why : SnapFault) : Type 0 where
+-- `count` words were wanted from byte offset `offset` on, and fewer bytes were read
+pub record LacksWords (before now : Option (List ℕ)) (offset count : ℕ) (why : SnapFault) : Type 0 where
   pub taken : List ℕ
   pub bytes : before ≡ prepended taken now
   pub few : length taken < 4 * count
-  pub says : SaysShort why (place + length taken) now
+  pub says : SaysShort why (offset + length taken) now
 
 -- a machine with other cells
 abbrev pub with_cells : RigState → List ℕ → RigState

@@ -2,7 +2,7 @@
 use Rattle.std.specs.Prelude.{◌≡◌, ◌≤◌, ℕ, ◌+◌, ◌*◌, List, ◌++◌, ◌==◌, if◌then◌else◌, None, length}
 use Rattle.px_num.specs.Height.{tall_height}
 use Rattle.dev_io.specs.Device.{prepended}
-use Rattle.gpu_capture.specs.Reader.{tag_due}
+use Rattle.gpu_capture.specs.Reader.{tag_expected}
 use Rattle.gpu_capture.specs.State.{ReaderState}
 use Rattle.gpu_core.specs.Kept.{kept_of, kept_with, state_with}
 use Rattle.event_play.specs.Replay.{tall_version}
@@ -16,8 +16,8 @@ use Rattle.snapshot_words.specs.declared.fault.SnapFault.{SnapFault}
 use Rattle.snapshot_words.specs.declared.outline.Outline.{Outline}
 
 -- a state begins after the magic number
-abbrev pub first_place : ℕ
-first_place = 8
+abbrev pub first_offset : ℕ
+first_offset = 8
 
 -- the rig of a state
 abbrev pub rig_in : Snapshot → RigState
@@ -33,12 +33,12 @@ abbrev pub machine_in : Snapshot → Machine
 machine_in s = record { gpu = state_with (rig_in s).gpu; ram = s.ram; running = s.outline.run }
 
 -- the records after a state are those of a capture of version 3 if video memory has 1024 rows, and else of version 2
-abbrev pub version_behind : (height : ℕ) → ℕ
-version_behind height = if height == tall_height then tall_version else 2
+abbrev pub version_after : (height : ℕ) → ℕ
+version_after height = if height == tall_height then tall_version else 2
 
--- the reader of the records after a state that ends at `place`
-abbrev pub reader_behind : (height place : ℕ) → ReaderState
-reader_behind height place = record { progress = tag_due (version_behind height) place; stop = None }
+-- the reader of the records after a state that ends at `offset`
+abbrev pub reader_after : (height offset : ℕ) → ReaderState
+reader_after height offset = record { progress = tag_expected (version_after height) offset; stop = None }
 
 -- ---- setting it
 
@@ -55,25 +55,25 @@ pub record HoldsOutline (rig : RigState) (o : Outline) : Type 0 where
 
 -- the rows of video memory of the outline that was read; 0 if none was read completely
 abbrev pub rows_found : Found Outline → ℕ
-rows_found (Whole o place rest) = o.regs.height
-rows_found (Short place) = 0
-rows_found (Bad place word) = 0
+rows_found (Whole o offset rest) = o.regs.height
+rows_found (Short offset) = 0
+rows_found (Bad offset word) = 0
 
 -- the maximum steps of reading a state: one for each sixteen cells
 unfoldable pub state_cost : (bytes : List ℕ) → ℕ
-state_cost bytes = 64 * rows_found (outline_from first_place bytes)
+state_cost bytes = 64 * rows_found (outline_from first_offset bytes)
 
 -- The bytes of a state were read, and no byte more. The rig is in that state, and the reader is after it.
 pub record Restores (before now : Intake) (rig : RigState) (reader : ReaderState) : Type 0 where
   pub snapshot : Snapshot
-  pub place : ℕ
+  pub offset : ℕ
   pub bytes : before.left ≡ prepended (snap_bytes snapshot.outline snapshot.m snapshot.ram) now.left
-  pub needed : AreNeeded (state_from first_place) (snap_bytes snapshot.outline snapshot.m snapshot.ram)
-  pub says : (rest : List ℕ) → state_from first_place (snap_bytes snapshot.outline snapshot.m snapshot.ram ++ rest)
-      ≡ Whole snapshot place rest
+  pub needed : AreNeeded (state_from first_offset) (snap_bytes snapshot.outline snapshot.m snapshot.ram)
+  pub says : (rest : List ℕ) → state_from first_offset (snap_bytes snapshot.outline snapshot.m snapshot.ram ++ rest)
+      ≡ Whole snapshot offset rest
   pub rig_is : rig ≡ rig_in snapshot
   pub stands : Stands rig (machine_in snapshot)
-  pub reader_is : reader ≡ reader_behind snapshot.outline.regs.height place
+  pub reader_is : reader ≡ reader_after snapshot.outline.regs.height offset
   pub cost : now.steps ≤ before.steps + 64 * snapshot.outline.regs.height
   pub cost_is : (rest : List ℕ) → state_cost (snap_bytes snapshot.outline snapshot.m snapshot.ram ++ rest)
       ≡ 64 * snapshot.outline.regs.height
@@ -82,6 +82,6 @@ pub record Restores (before now : Intake) (rig : RigState) (reader : ReaderState
 pub record StopsInState (before now : Intake) (why : SnapFault) : Type 0 where
   pub taken : List ℕ
   pub bytes : before.left ≡ prepended taken now.left
-  pub needed : AreNeeded (state_from first_place) taken
-  pub says : SaysFault why (state_from first_place) taken now.left
+  pub needed : AreNeeded (state_from first_offset) taken
+  pub says : SaysFault why (state_from first_offset) taken now.left
   pub cost : (rest : List ℕ) → now.steps ≤ before.steps + state_cost (taken ++ rest)

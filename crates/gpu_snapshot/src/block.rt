@@ -9,31 +9,31 @@ use dev_io::{Source, fill};
 use gpu_capture::Stop;
 use snapshot_words::SnapFault;
 
-/// Reads the next 512 words (2,048 bytes) into `block`, and no byte after them. `place`: byte offset of the first,
+/// Reads the next 512 words (2,048 bytes) into `block`, and no byte after them. `offset`: byte offset of the first,
 /// below 2^31. If the source ends or fails, returns `Truncated` or `ReadFault` with the offset of the first missing
 /// byte.
 pub(crate) fn take_block<S: Source>(
     source: &mut S,
-    place: u32,
+    offset: u32,
     block: &mut [u8; 2048],
 ) -> Result<(), SnapFault>
-    requires { place < 2 ^ 31 }
+    requires { offset < 2 ^ 31 }
     ensures takes { OnOk result (S.left source.old ≡ prepended block.new (S.left source.new)) }
     ensures long { length block.new ≡ 2048 }
-    ensures fault { IfErr result (λ fault. LacksWords (S.left source.old) (S.left source.new) place 512 fault) }
+    ensures fault { IfErr result (λ fault. LacksWords (S.left source.old) (S.left source.new) offset 512 fault) }
     ensures cause { HasCause (S.faults source.old) (S.faults source.new) result }
 {
     match fill(source, block) {
         Ok(2048) => Ok(()),
         Ok(n) => {
             let stop = Stop::Truncated {
-                byte: place + n as u32,
+                byte: offset + n as u32,
             };
             Err(SnapFault::Stop { stop })
         }
         Err(n) => {
             let stop = Stop::ReadFault {
-                byte: place + n as u32,
+                byte: offset + n as u32,
             };
             Err(SnapFault::Stop { stop })
         }

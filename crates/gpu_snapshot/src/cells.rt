@@ -39,28 +39,28 @@ fn lanes_in(block: &[u8; 2048], c: usize) -> [u16; 16]
     lanes
 }
 
-/// Reads the cells of all `rows` rows of video memory. `place`: byte offset of the first, below 2^29. `rows` is a
+/// Reads the cells of all `rows` rows of video memory. `offset`: byte offset of the first, below 2^29. `rows` is a
 /// parameter so that no proof computes the list. Costs at most 64 steps per row.
 pub(crate) fn read_cells<S: Source, L: Ledger>(
     source: &mut S,
-    place: u32,
+    offset: u32,
     rig: &mut Rig,
     rows: u32,
     steps: &mut Steps<L>,
 ) -> Result<(), SnapFault>
     requires rows { HasRows rig.old rows }
-    requires place { place < 2 ^ 29 }
+    requires offset { offset < 2 ^ 29 }
     ensures takes { OnOk result (TakesCells (S.left source.old) (S.left source.new) rig.new.gpu.parts.m) }
     ensures others { rig.new ≡ with_cells rig.old rig.new.gpu.parts.m }
     ensures long { length rig.new.gpu.parts.m ≡ length rig.old.gpu.parts.m }
     ensures fault { IfErr result (λ fault.
-        LacksWords (S.left source.old) (S.left source.new) place (512 * rows) fault) }
+        LacksWords (S.left source.old) (S.left source.new) offset (512 * rows) fault) }
     ensures cause { HasCause (S.faults source.old) (S.faults source.new) result }
     ensures cost { steps.new ≤ steps.old + 64 * rows }
 {
     let mut block = [0u8; 2048];
     'rows: for y in 0..rows {
-        if let Err(fault) = take_block(source, place + 2048 * y, &mut block) {
+        if let Err(fault) = take_block(source, offset + 2048 * y, &mut block) {
             return Err(fault);
         }
         set_row(rig, y, &block, steps);

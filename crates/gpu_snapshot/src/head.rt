@@ -25,14 +25,14 @@ pub enum FileHead {
 fn file_head(bytes: &[u8; 8]) -> Result<FileHead, usize>
     ensures head { result ≡ file_head bytes.now }
     ensures bounds { IfOk result IsFileHead }
-    ensures place { IfErr result (λ place. place < 8) }
+    ensures offset { IfErr result (λ offset. offset < 8) }
 {
     match head_among(&HEADS, bytes) {
         Ok(3) => Ok(FileHead::Snapshot),
         Ok(number) => Ok(FileHead::Capture {
             version: number as u8 + 1,
         }),
-        Err(place) => Err(place),
+        Err(offset) => Err(offset),
     }
 }
 
@@ -49,7 +49,9 @@ pub(crate) fn take_head<S: Source>(source: &mut S) -> Result<FileHead, Stop>
     match fill(source, &mut bytes) {
         Ok(8) => match file_head(&bytes) {
             Ok(head) => Ok(head),
-            Err(place) => Err(Stop::NotCapture { byte: place as u32 }),
+            Err(offset) => Err(Stop::NotCapture {
+                byte: offset as u32,
+            }),
         },
         Ok(n) => Err(Stop::Truncated { byte: n as u32 }),
         Err(n) => Err(Stop::ReadFault { byte: n as u32 }),

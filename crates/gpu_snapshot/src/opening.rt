@@ -20,7 +20,7 @@ use vram_store::Steps;
 const TALL_VERSION: u8 = 3;
 
 /// The byte offset after the magic number.
-const BEHIND_HEAD: u32 = 8;
+const AFTER_HEAD: u32 = 8;
 
 /// Opens the capture or snapshot in `source` with a new machine. Returns the machine and a reader of the records that
 /// follow.
@@ -49,7 +49,7 @@ pub fn open<S: Source, L: Ledger>(
     match take_head(source) {
         Ok(FileHead::Capture { version }) => {
             set_profile(&mut rig, version == TALL_VERSION);
-            Ok((rig, EventReader::at(version, BEHIND_HEAD)))
+            Ok((rig, EventReader::at(version, AFTER_HEAD)))
         }
         Ok(FileHead::Snapshot) => match restore(&mut rig, source, steps) {
             Ok(reader) => Ok((rig, reader)),

@@ -5,7 +5,7 @@ ghost use Rattle.gpu_capture.specs.Capture.{IsVersion};
 ghost use Rattle.event_play.specs.RigState.{first_rig};
 ghost use Rattle.snapshot_words.specs.Taking.{IsReadFault};
 ghost use Rattle.gpu_snapshot.specs.Intake.{intake};
-ghost use Rattle.gpu_snapshot.specs.Restored.{version_behind, Restores, StopsInState};
+ghost use Rattle.gpu_snapshot.specs.Restored.{version_after, Restores, StopsInState};
 
 use crate::memories::read_memories;
 use crate::outline::put_outline;
@@ -20,11 +20,11 @@ use vram_store::Steps;
 const TALL_HEIGHT: u16 = 1024;
 
 /// The byte offset of a state, after the magic number.
-const FIRST_PLACE: u32 = 8;
+const FIRST_OFFSET: u32 = 8;
 
 /// Returns the version of the records after a state with this height: 3 for 1024 rows, else 2.
-fn version_behind(height: u16) -> u8
-    ensures value { result ≡ version_behind height }
+fn version_after(height: u16) -> u8
+    ensures value { result ≡ version_after height }
     ensures known { IsVersion result }
 {
     if height == TALL_HEIGHT { 3 } else { 2 }
@@ -44,15 +44,15 @@ pub(crate) fn restore<S: Source, L: Ledger>(
     ensures cause { IfErr result (λ fault. IsReadFault fault → Rose (S.faults source.old) (S.faults source.new)) }
     ensures faults { S.faults source.old ≤ S.faults source.new }
 {
-    let mut place = FIRST_PLACE;
-    let outline = match read_outline(source, &mut place) {
+    let mut offset = FIRST_OFFSET;
+    let outline = match read_outline(source, &mut offset) {
         Ok(outline) => outline,
         Err(fault) => return Err(fault),
     };
-    let version = version_behind(outline.regs.height());
+    let version = version_after(outline.regs.height());
     put_outline(rig, outline);
-    match read_memories(source, &mut place, rig, steps) {
-        Ok(()) => Ok(EventReader::at(version, place)),
+    match read_memories(source, &mut offset, rig, steps) {
+        Ok(()) => Ok(EventReader::at(version, offset)),
         Err(fault) => Err(fault),
     }
 }

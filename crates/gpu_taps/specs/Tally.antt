@@ -70,6 +70,6 @@ abbrev pub trace_numbers : List Noted → List ℕ
 trace_numbers [] = []
 trace_numbers (note ∷ notes) = note.event ∷ note.class ∷ note.head ∷ trace_numbers notes
 
--- a number of a note: its event, class or head for `place` 0, 1 or 2
-abbrev pub note_number : Noted → (place : ℕ) → ℕ
-note_number note place = if place == 0 then note.event else (if place == 1 then note.class else note.head)
+-- a number of a note: its event, class or head for `index` 0, 1 or 2
+abbrev pub note_number : Noted → (index : ℕ) → ℕ
+note_number note index = if index == 0 then note.event else (if index == 1 then note.class else note.head)

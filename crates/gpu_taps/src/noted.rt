@@ -27,11 +27,11 @@ impl Noted {
         }
     }
 
-    /// Returns the event for `place` 0, the class for 1, otherwise the head.
-    pub(crate) fn number(&self, place: u32) -> u64
-        ensures { result ≡ note_number self.now place }
+    /// Returns the event for `index` 0, the class for 1, otherwise the head.
+    pub(crate) fn number(&self, index: u32) -> u64
+        ensures { result ≡ note_number self.now index }
     {
-        match place {
+        match index {
             0 => self.event,
             1 => u64::from(self.class),
             _ => u64::from(self.head),

@@ -16,6 +16,6 @@ next_fits f xs i d text most lt is fits =
     ap (flat_map f) (sym (take-append-drop i xs) ∙ ap (λ ys. take i xs ++ ys) (drop_more xs i d lt))
     ∙ flat_map-append f (take i xs) (x ∷ drop (i + 1) xs) in
     let long = ap length all ∙ length-append first (f x ++ rest) in
-    let behind = length-append (f x) rest in
+    let after = length-append (f x) rest in
     let same = ap length is in
-    omega (arith, long, behind, same, fits)
+    omega (arith, long, after, same, fits)

@@ -5,7 +5,7 @@ use Rattle.std.proofs.lemmas.Bool.Decides.{nat_tests}
 use Rattle.std.proofs.lemmas.List.Sums.{fold_more, fold-append}
 use Rattle.std.proofs.Math.Seq.{take-add}
 use Rattle.event_play.specs.PlayedWords.{after_word, after_words}
-use Rattle.event_play.specs.Replay.{Tale, from_state, next_number}
+use Rattle.event_play.specs.Replay.{Replay, from_state, next_number}
 use Rattle.event_play.specs.RigState.{RigState, Stands, StandsFor}
 use Rattle.event_play.specs.Step.{Machine}
 use Rattle.gp0_words.specs.Items.{pending_behind}
@@ -46,7 +46,7 @@ next_wanted s word left is some few =
 
 -- ---- data words in order
 
-wanted_on : (t : Tale) (words : List ℕ) (at n left : ℕ) → at + n ≤ length words → n < left → left ≤ most_data_words
+wanted_on : (t : Replay) (words : List ℕ) (at n left : ℕ) → at + n ≤ length words → n < left → left ≤ most_data_words
     → pending_behind (after_words t (take at words)).state.gpu.words ≡ pending.Pixels left
     → pending_behind (after_words t (take (at + n) words)).state.gpu.words ≡ pending.Pixels (left - n)
 wanted_on t words at zero left within some few is =
@@ -61,7 +61,7 @@ wanted_on t words at (suc n) left within some few is =
     let next = next_wanted u.state.gpu w (left - n) before (omega (arith, some)) (omega (arith, few)) in
     rw (e, step, ← less) next
 
-pub quiet_words : (t : Tale) (words : List ℕ) (at n left : ℕ) → at + n ≤ length words → n ≤ left
+pub quiet_words : (t : Replay) (words : List ℕ) (at n left : ℕ) → at + n ≤ length words → n ≤ left
     → left ≤ most_data_words
     → pending_behind (after_words t (take at words)).state.gpu.words ≡ pending.Pixels left
     → first_notes t words (at + n) ≡ first_notes t words at
@@ -81,7 +81,7 @@ quiet_words t words at (suc n) left within some few is =
 
 -- ---- the notes recorded before decide nothing
 
-same_start : (t u : Tale) (words : List ℕ) (rig : RigState) → t.state ≡ u.state → t.played ≡ u.played
+same_start : (t u : Replay) (words : List ℕ) (rig : RigState) → t.state ≡ u.state → t.played ≡ u.played
     → StandsFor rig (after_words t words) → StandsFor rig (after_words u words)
 same_start t u [] rig state played h = record {
   state = subst (λ (s : Machine). Stands rig s) state h.state;
@@ -92,7 +92,7 @@ same_start t u (word ∷ words) rig state played h =
     (ap (λ (s : Machine). record s { gpu = after_gp0 s.gpu word }) state) (ap next_number played) h
 
 -- data words were fed at once after the first words
-pub noted_data : (t : Tale) (words : List ℕ) (at n k : ℕ) (rig next : RigState) (before now : List ItemNote)
+pub noted_data : (t : Replay) (words : List ℕ) (at n k : ℕ) (rig next : RigState) (before now : List ItemNote)
     (count : ℕ)
     → k ≡ n → 0 < n → at + n ≤ length words → n ≤ wanted rig.gpu.pending → IsPending rig.gpu.pending
     → HasNotedFirst t words at rig before now count
@@ -115,6 +115,6 @@ noted_data t words at n k rig next before now count same some within few kept h 
     record {
       stands = rw (cut, fold-append after_word t (take at words) part) on;
       front = rw quiet h.front;
-      behind = h.behind;
+      after = h.after;
       is_count = rw quiet h.is_count;
     }

@@ -2,10 +2,10 @@
 use Rattle.std.proofs.Common.{◌≡◌, ◌+◌, ◌++◌, List, [], ℕ, Option, Some, take, ap}
 use Rattle.dev_io.specs.Device.{appended}
 use Rattle.dev_io.specs.Memory.{SinkState}
-use Rattle.event_play.specs.Course.{Course, Tales, at_end, course, tales}
+use Rattle.event_play.specs.PlayInput.{PlayInput, ReplayPair, at_end, play_input, replay_pair}
 use Rattle.event_play.specs.Out.{lines_of}
 use Rattle.event_play.specs.Playing.{EndsPlay, LacksBytes, SaysEnding}
-use Rattle.event_play.specs.Replay.{Script, Tale}
+use Rattle.event_play.specs.Replay.{Script, Replay}
 use Rattle.event_play.specs.RigState.{RigState}
 use Rattle.event_play.specs.Streams.{streams}
 use Rattle.event_play.specs.declared.ending.Ending.{Ending}
@@ -28,7 +28,7 @@ told : (room : ℕ) (sink : SinkState) (bytes : List ℕ)
 told room sink bytes is =
     let has = taken_bytes room sink bytes is in (ap Some has.held, has.room_is)
 
-lacks_told : (on : Course) (replay : Tales) (room : ℕ) (sink : SinkState) (l l' : Option (List ℕ))
+lacks_told : (on : PlayInput) (replay : ReplayPair) (room : ℕ) (sink : SinkState) (l l' : Option (List ℕ))
     (h h' : List Reading) (n n' number : ℕ)
     → LacksBytes on replay number (streams l (room_and_bytes (empty_sink room)) h n)
     (streams l' (room_and_bytes sink) h' n')
@@ -41,14 +41,14 @@ lacks_told on replay room sink l l' h h' n n' number lacks =
         number_is = lacks.number_is;
         start = lacks.start;
         due = lacks.due;
-        place = lacks.place;
+        origin = lacks.origin;
         held = record { count = part.count; part = part.part; held = is.0 };
         prefix = lacks.prefix;
       },
       is.1,
     )
 
-says_told : (on : Course) (replay : Tales) (room : ℕ) (sink : SinkState) (l l' : Option (List ℕ))
+says_told : (on : PlayInput) (replay : ReplayPair) (room : ℕ) (sink : SinkState) (l l' : Option (List ℕ))
     (h h' : List Reading) (n n' : ℕ) (ending : Ending)
     → SaysEnding on replay (streams l (room_and_bytes (empty_sink room)) h n) (streams l' (room_and_bytes sink) h' n')
     ending
@@ -81,12 +81,13 @@ plays_told : (mode : Mode) (script : List ℕ → Script) (room : ℕ) (sink : S
     → EndsPlay mode script (streams l (Some []) h n) (at_end (streams l' (Some sink.held) h' n') rig) ending
     × (sink.room ≡ room)
 plays_told mode script room sink l l' h h' n n' rig ending e =
-    let says = says_told (course mode script e.taken) (tales e.tale e.last) room sink l l' h h' n n' ending e.says in (
+    let says = says_told (play_input mode script e.taken)
+    (replay_pair e.replay e.last) room sink l l' h h' n n' ending e.says in (
       record {
         taken = e.taken;
         bytes = e.bytes;
         needed = e.needed;
-        tale = e.tale;
+        replay = e.replay;
         last = e.last;
         says = says.0;
         is_last = e.is_last;
@@ -98,7 +99,7 @@ plays_told mode script room sink l l' h h' n n' rig ending e =
       says.1,
     )
 
-pub ends_told : (mode : Mode) (first : Tale) (room : ℕ) (sink : SinkState) (l l' : Option (List ℕ))
+pub ends_told : (mode : Mode) (first : Replay) (room : ℕ) (sink : SinkState) (l l' : Option (List ℕ))
     (h h' : List Reading) (n n' : ℕ) (end : AnyEnding)
     → EndsAny mode first (streams l (room_and_bytes (empty_sink room)) h n) (streams l' (room_and_bytes sink) h' n') end
     → EndsAny mode first (streams l (Some []) h n) (streams l' (Some sink.held) h' n') end × (sink.room ≡ room)

@@ -11,7 +11,7 @@ use Rattle.gpu_capture.proofs.Written.{word_length}
 use Rattle.gpu_snapshot.specs.Intake.{intake}
 use Rattle.gpu_snapshot.specs.Opened.{Opened, Restored, opened}
 use Rattle.gpu_snapshot.specs.Opening.{OpensCapture, OpensState, Refuses}
-use Rattle.gpu_snapshot.specs.Restored.{first_place}
+use Rattle.gpu_snapshot.specs.Restored.{first_offset}
 use Rattle.gpu_snapshot.proofs.CutFiles.{spelled_opens}
 use Rattle.snapshot_words.specs.Outline.{snap_bytes}
 use Rattle.snapshot_words.specs.Reading.{Snapshot}
@@ -68,7 +68,7 @@ abbrev snapshot_in : RigState → Snapshot
 snapshot_in rig = record { outline = outline_of rig; m = rig.gpu.parts.m; ram = rig.ram }
 
 saved_opens : (rig : RigState) → IsWritable rig → opened (saved rig)
-    ≡ Restored (snapshot_in rig) (first_place + length (snap_bytes (outline_of rig) rig.gpu.parts.m rig.ram))
+    ≡ Restored (snapshot_in rig) (first_offset + length (snap_bytes (outline_of rig) rig.gpu.parts.m rig.ram))
     spelled_end
 unfolding rig_bytes
 saved_opens rig is = spelled_opens (snapshot_in rig) spelled_end

@@ -4,7 +4,7 @@ use Rattle.std.specs.Prelude.{Some, None}
 use Rattle.std.specs.Prelude.{Result, Err, if◌then◌else◌, length, nat_lt, slice_index}
 use Rattle.gpu_capture.specs.declared.event.Event.{Event}
 use Rattle.ot_clear_dma.specs.Ram.{set}
-use Rattle.event_play.specs.PlayedWords.{number_behind}
+use Rattle.event_play.specs.PlayedWords.{number_after}
 use Rattle.event_play.specs.RigState.{RigState}
 use Rattle.psxgpu_c.specs.Calls.{Plays}
 use Rattle.psxgpu_c.specs.Codes.{code_for}
@@ -26,7 +26,7 @@ put_first ram address words (suc n) = set (put_first ram address words n) (addre
 abbrev pub filled : (address : ℕ) → List ℕ → RigState → RigState
 filled address words was = record was {
   ram = put_first was.ram address words (length words);
-  played = number_behind was.played (length words);
+  played = number_after was.played (length words);
 }
 
 -- the words were written; or they are not all in main memory, and nothing changed

@@ -2,7 +2,7 @@
 use Rattle.std.specs.Prelude.{◌≡◌, ◌<◌, ◌==◌, ℕ, zero, suc, pos, List, [], ◌∷◌, ◌++◌, Option, Some, None, Result, Ok}
 use Rattle.std.specs.Prelude.{Err, if◌then◌else◌, length, take, slice_index}
 use Rattle.event_play.specs.PlayedWords.{after_words}
-use Rattle.event_play.specs.Replay.{Tale, from_state, next_number}
+use Rattle.event_play.specs.Replay.{Replay, from_state, next_number}
 use Rattle.event_play.specs.RigState.{RigState, Stands, StandsFor}
 use Rattle.event_play.specs.Step.{Machine}
 use Rattle.gp0_packets.specs.declared.note.Note.{Note}
@@ -39,7 +39,7 @@ noted_at word None = []
 noted_at word (Some note) = if note.class == 9 then [] else item_note word note ∷ []
 
 -- the notes of the first n of these words, fed after `t`
-abbrev pub first_notes : Tale → (words : List ℕ) → (n : ℕ) → List ItemNote
+abbrev pub first_notes : Replay → (words : List ℕ) → (n : ℕ) → List ItemNote
 first_notes t words zero = []
 first_notes t words (suc n) =
     let before = after_words t (take n words) in
@@ -55,7 +55,7 @@ abbrev pub noting : {Held : Type 0} → Held → List ItemNote → Noting Held
 noting held notes = record { held = held; notes = notes }
 
 -- these words were fed after `t`, and their `count` notes are at the start of the buffer
-pub record HasNoted (t : Tale) (words : List ℕ) (before : List ItemNote) (now : Noting RigState) (count : ℕ)
+pub record HasNoted (t : Replay) (words : List ℕ) (before : List ItemNote) (now : Noting RigState) (count : ℕ)
     : Type 0 where
   pub stands : StandsFor now.held (after_words t words)
   pub front : StandsInFront (first_notes t words (length words)) before now.notes

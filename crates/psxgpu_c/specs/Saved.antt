@@ -2,7 +2,7 @@
 use Rattle.std.specs.Prelude.{◌≡◌, ◌⊎◌, ◌++◌, ◌^◌, ℕ, Bool, true, false, List, Option, Some, None, Result, Err, OnOk}
 use Rattle.std.specs.Prelude.{nat_lt}
 use Rattle.capture_cut.specs.File.{rig_bytes}
-use Rattle.event_play.specs.Replay.{Tale, raised}
+use Rattle.event_play.specs.Replay.{Replay, raised}
 use Rattle.event_play.specs.RigState.{RigState, Stands, StandsFor, first_rig}
 use Rattle.gpu_capture.specs.Written.{spelled_end}
 use Rattle.gpu_capture.specs.declared.event.Stop.TheVariants as stop
@@ -29,7 +29,7 @@ can_be_saved rig = nat_lt rig.played (2 ^ 63)
 -- the rig is in the state of a snapshot, or in the first state for a capture
 abbrev pub IsOpened : Opened → RigState → Type 0
 IsOpened (Captured version rest) rig =
-    ((t : Tale) → StandsFor first_rig t → StandsFor rig (raised t version)) × (rig.played ≡ 0)
+    ((t : Replay) → StandsFor first_rig t → StandsFor rig (raised t version)) × (rig.played ≡ 0)
 IsOpened (Restored s place rest) rig = (rig ≡ rig_in s) × Stands rig (machine_in s)
 IsOpened other rig = ⊥
 

@@ -14,7 +14,7 @@ use Rattle.psxgpu_c.specs.declared.refusal.Refusal.TheVariants as refusal
 pub record StandsInFront {Value : Type 0} (due before now : List Value) : Type 0 where
   pub fits : length due ≤ length before
   pub front : take (length due) now ≡ due
-  pub behind : drop (length due) now ≡ drop (length due) before
+  pub after : drop (length due) now ≡ drop (length due) before
 
 -- The values were written to the start, and the result is their number. Or the buffer is too short and unchanged.
 abbrev pub PutsIfRoom : (due before now : List ℕ) → Result ℕ Refusal → Type 0

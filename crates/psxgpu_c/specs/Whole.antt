@@ -8,7 +8,7 @@ use Rattle.event_play.specs.declared.ending.Ending.{Ending}
 use Rattle.event_play.specs.declared.ending.Ending.TheVariants as ending
 use Rattle.event_play.specs.declared.ending.Mode.{Mode}
 use Rattle.event_play.specs.declared.ending.Mode.TheVariants as mode
-use Rattle.event_play.specs.declared.ending.Moment.TheVariants as moment
+use Rattle.event_play.specs.declared.ending.FrameTrigger.TheVariants as frame_trigger
 use Rattle.gpu_snapshot.specs.PlayAny.{AnyMayReadFault, AnyMayWriteFault, EndsAny}
 use Rattle.gpu_snapshot.specs.declared.ending.AnyEnding.{AnyEnding}
 use Rattle.gpu_snapshot.specs.declared.ending.AnyEnding.TheVariants as any
@@ -26,8 +26,9 @@ cell_in word = record { x = word % 2 ^ 16; y = word / 2 ^ 16 }
 -- the modes in the order of their numbers; the cell is for `Pixel`
 abbrev pub modes : Cell → List Mode
 modes cell =
-    mode.Play ∷ mode.Vram ∷ mode.Shot ∷ mode.List ∷ mode.Report ∷ mode.Frames moment.Flip ∷ mode.Frames moment.Mark
-    ∷ mode.Sums moment.Flip ∷ mode.Sums moment.Mark ∷ mode.Pixel cell ∷ []
+    mode.Play ∷ mode.Vram ∷ mode.Shot ∷ mode.List ∷ mode.Report ∷ mode.Frames frame_trigger.Flip
+    ∷ mode.Frames frame_trigger.Mark
+    ∷ mode.Sums frame_trigger.Flip ∷ mode.Sums frame_trigger.Mark ∷ mode.Pixel cell ∷ []
 
 abbrev pub mode_named : (number cell : ℕ) → Option Mode
 mode_named number cell = slice_get (modes (cell_in cell)) number

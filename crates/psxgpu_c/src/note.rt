@@ -72,7 +72,7 @@ pub(crate) fn put_note(
     ensures count { result ≡ count + length (noted_at word note.now) }
     ensures most { result ≤ count + 1 }
     ensures front { take result notes.new ≡ take count notes.old ++ noted_at word note.now }
-    ensures behind { drop result notes.new ≡ drop result notes.old }
+    ensures after { drop result notes.new ≡ drop result notes.old }
 {
     match note {
         Some(note) if note.class != 9 => {

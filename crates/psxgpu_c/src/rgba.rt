@@ -40,7 +40,7 @@ fn add_alpha(bytes: &[u8], count: usize, out: &mut [u8])
     requires bytes { 3 * count ≤ length bytes.now }
     requires room { 4 * count ≤ length out.old }
     ensures front { take (4 * count) out.new ≡ with_alpha bytes.now count }
-    ensures behind { drop (4 * count) out.new ≡ drop (4 * count) out.old }
+    ensures after { drop (4 * count) out.new ≡ drop (4 * count) out.old }
 {
     for k in 0..count {
         put_pixel(&bytes[3 * k..3 * k + 3], &mut out[4 * k..4 * k + 4]);

@@ -5,7 +5,7 @@ ghost use Rattle.psxgpu_c.specs.Whole.{PlaysMode, at_end, at_ending, cell_in, mo
 use crate::ended::{Ended, at_place, numbers, of_fault, of_refusal, of_stop};
 use crate::refusal::Refusal;
 use crate::run::play_over;
-use event_play::{Ending, Mode, Moment};
+use event_play::{Ending, FrameTrigger, Mode};
 use gpu_snapshot::AnyEnding;
 use px_num::Cell;
 use std::alloc::Global;
@@ -51,10 +51,18 @@ fn mode_of(number: u32, cell: u32) -> Option<Mode>
         Mode::Shot,
         Mode::List,
         Mode::Report,
-        Mode::Frames { at: Moment::Flip },
-        Mode::Frames { at: Moment::Mark },
-        Mode::Sums { at: Moment::Flip },
-        Mode::Sums { at: Moment::Mark },
+        Mode::Frames {
+            at: FrameTrigger::Flip,
+        },
+        Mode::Frames {
+            at: FrameTrigger::Mark,
+        },
+        Mode::Sums {
+            at: FrameTrigger::Flip,
+        },
+        Mode::Sums {
+            at: FrameTrigger::Mark,
+        },
         Mode::Pixel {
             cell: cell_in(cell),
         },

@@ -6,8 +6,8 @@ use Rattle.std.specs.Str.Parse.{digits_value}
 use Rattle.std.proofs.lemmas.Fmt.{decimal_is_IsNumeral}
 use Rattle.event_play.specs.declared.ending.Mode.TheVariants.{Vram, Shot, Report, Frames, Sums, Pixel}
 use Rattle.event_play.specs.declared.ending.Mode.TheVariants.{List as Listing, Play as Words}
-use Rattle.event_play.specs.declared.ending.Moment.{Moment}
-use Rattle.event_play.specs.declared.ending.Moment.TheVariants.{Flip, Mark}
+use Rattle.event_play.specs.declared.ending.FrameTrigger.{FrameTrigger}
+use Rattle.event_play.specs.declared.ending.FrameTrigger.TheVariants.{Flip, Mark}
 use Rattle.psxgpu_tool.specs.Command.{names_of, AreNames, IsCommand}
 use Rattle.psxgpu_tool.specs.declared.command.Command.{Command}
 use Rattle.psxgpu_tool.specs.declared.command.Command.TheVariants.{Plays, Flat, Slim, Cut, Demo, Help, Version}
@@ -16,12 +16,12 @@ use Rattle.psxgpu_tool.specs.declared.command.Command.TheVariants.{Plays, Flat, 
 abbrev letters : List ℕ → ℕ
 letters name = 65536 * slice_index_or name 0 0 + 256 * slice_index_or name 2 0 + slice_index_or name 3 0
 
--- the `Moment` of this second name
-abbrev moment_by : (name : List ℕ) → Moment
-moment_by name = if slice_index_or name 0 0 == 109 then Mark else Flip
+-- the `FrameTrigger` of this second name
+abbrev frame_trigger_by : (name : List ℕ) → FrameTrigger
+frame_trigger_by name = if slice_index_or name 0 0 == 109 then Mark else Flip
 
--- the command of these letters, with this `Moment` and these numbers
-abbrev command_by : (letters : ℕ) → Moment → (n m : ℕ) → Command
+-- the command of these letters, with this `FrameTrigger` and these numbers
+abbrev command_by : (letters : ℕ) → FrameTrigger → (n m : ℕ) → Command
 command_by given at n m =
     if given == letters (codes "play") then Plays Words else
     if given == letters (codes "vram") then Plays Vram else
@@ -39,7 +39,7 @@ command_by given at n m =
     Version
 
 abbrev command_of : (names : List (List ℕ)) → Command
-command_of names = command_by (letters (slice_index_or names 0 [])) (moment_by (slice_index_or names 1 []))
+command_of names = command_by (letters (slice_index_or names 0 [])) (frame_trigger_by (slice_index_or names 1 []))
     (digits_value 10 (slice_index_or names 1 [])) (digits_value 10 (slice_index_or names 2 []))
 
 -- a command is determined by its names

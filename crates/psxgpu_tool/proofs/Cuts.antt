@@ -13,7 +13,7 @@ use Rattle.gpu_capture.specs.declared.event.Stop.TheVariants.{ReadFault}
 use Rattle.gpu_taps.specs.Tally.{Reading}
 use Rattle.event_play.specs.Ends.{IsNotEnd}
 use Rattle.event_play.specs.Playing.{whole}
-use Rattle.event_play.specs.Replay.{Tale, Played, played_events, after_event, told_on, go_on, next_number, raised}
+use Rattle.event_play.specs.Replay.{Replay, Played, played_events, after_event, told_on, go_on, next_number, raised}
 use Rattle.event_play.specs.RigState.{RigState}
 use Rattle.event_play.specs.Step.{event_step, event_cost, event_box_cost}
 use Rattle.event_play.specs.Streams.{Streams}
@@ -77,7 +77,7 @@ cut_four (Stopped n (ReadFault byte)) four = absurd (omega (arith, four))
 -- ---- the first events
 
 -- more events after the first make no shorter file
-longer : (t : Tale) (xs ys : List Event) → length (cut_file t xs) ≤ length (cut_file t (xs ++ ys))
+longer : (t : Replay) (xs ys : List Event) → length (cut_file t xs) ≤ length (cut_file t (xs ++ ys))
 longer t xs ys =
     let a = length-append (begun t xs) spelled_end in
     let b = length-append (begun t (xs ++ ys)) spelled_end in
@@ -88,8 +88,8 @@ longer t xs ys =
     omega (arith, a, b, c, d, e, f)
 
 -- a captured list of events that begins with those that were played
-module _ (n : ℕ) (way : Way) (plays : Plays (raised first way.version) way.played way.tale) where
-  replayed_first : played_events (raised first way.version) way.played End [] ≡ whole way.tale []
+module _ (n : ℕ) (way : Way) (plays : Plays (raised first way.version) way.played way.replay) where
+  replayed_first : played_events (raised first way.version) way.played End [] ≡ whole way.replay []
   replayed_first =
       ap (λ (events : List Event). played_events (raised first way.version) events End []) (sym (append-nil way.played))
       ∙ plays.replays [] End []
@@ -103,45 +103,49 @@ module _ (n : ℕ) (way : Way) (plays : Plays (raised first way.version) way.pla
     dropped_first : drop n captured.events ≡ more
     dropped_first = ap (drop n) events ∙ drop_at way.played more n all
 
-    first_played : play_first n captured ≡ whole way.tale []
+    first_played : play_first n captured ≡ whole way.replay []
     first_played =
         ap (λ (events : List Event). played_events (raised first captured.version) events End []) taken_first
         ∙ ap (λ (v : ℕ). played_events (raised first v) way.played End []) same ∙ replayed_first
 
-    file_is : cut_of n captured ≡ cut_file way.tale more
+    file_is : cut_of n captured ≡ cut_file way.replay more
     file_is =
-        ap (λ (r : Played). cut_file r.tale (drop n captured.events)) first_played
-        ∙ ap (cut_file way.tale) dropped_first
+        ap (λ (r : Played). cut_file r.replay (drop n captured.events)) first_played
+        ∙ ap (cut_file way.replay) dropped_first
 
   -- fewer were played, and the next has a fault
-  module _ (event : Event) (fault : EventFault) (is : event_step way.tale.state (next_number way.tale.played) event
+  module _ (event : Event) (fault : EventFault) (is : event_step way.replay.state (next_number way.replay.played) event
       ≡ Err fault) where
     faults_first : (more : List Event)
         → (played_events (raised first way.version) (way.played ++ event ∷ more) End []).ending
-        ≡ play.Faulted (next_number way.tale.played) fault
+        ≡ play.Faulted (next_number way.replay.played) fault
     faults_first more =
-        let after : after_event way.tale event ≡ Err fault =
-        ap (told_on way.tale event (event_cost way.tale.state event) (event_box_cost way.tale.state event)) is
+        let after : after_event way.replay event ≡ Err fault =
+        ap (told_on way.replay event (event_cost way.replay.state event) (event_box_cost way.replay.state event)) is
         in
         ap (λ (r : Played). r.ending) (plays.replays (event ∷ more) End []
         ∙ ap (λ r. go_on r (λ next. played_events next more End [])
-        (λ fault. record { tale = way.tale; ending = play.Faulted (next_number way.tale.played) fault; rest = [] }))
+        (λ fault. record {
+          replay = way.replay;
+          ending = play.Faulted (next_number way.replay.played) fault;
+          rest = [];
+        }))
         after)
 
 -- the file of a cut capture continues it
 cut_goes_on : (n : ℕ) (way : Way) (was now : Streams)
-    → Plays (raised first way.version) way.played way.tale → IsCut n way was now
-    → GoesOnAs way.tale (λ rest. played_events (raised first way.version) (events_of way) End rest)
-    (λ rest. play_file (cut_file way.tale way.later ++ rest))
+    → Plays (raised first way.version) way.played way.replay → IsCut n way was now
+    → GoesOnAs way.replay (λ rest. played_events (raised first way.version) (events_of way) End rest)
+    (λ rest. play_file (cut_file way.replay way.later ++ rest))
 cut_goes_on n way was now plays is =
-    let leads = cut_files.leads (raised first way.version) way.tale way.played plays in
+    let leads = cut_files.leads (raised first way.version) way.replay way.played plays in
     let whole = cut_files.whole n way was now is in
     record {
       writes = λ mode heard rest.
-          cut_files.writes_on mode heard first (raised first way.version) way.tale way.played way.later rest leads
+          cut_files.writes_on mode heard first (raised first way.version) way.replay way.played way.later rest leads
           whole;
       ends = λ rest.
-          cut_files.ends_on first (raised first way.version) way.tale way.played way.later rest leads whole;
+          cut_files.ends_on first (raised first way.version) way.replay way.played way.later rest leads whole;
     }
 
 -- the first of a longer list, beyond a part of it
@@ -177,11 +181,11 @@ module _ (n : ℕ) (small : n ≤ 4294967295) (heard heard_now : List Reading) (
       let size = length-append way.played way.later in
       let many = ap length events in
       let all = ends.says.all in
-      let Whole : Captured → Type 0 = λ c. GoesOnAs way.tale (play_whole c)
-      (λ rest. play_file (cut_file way.tale way.later ++ rest)) in
-      let Was : Played → Type 0 = λ r. GoesOnAs r.tale (play_whole (capture bytes))
-      (λ rest. play_file (cut_file way.tale way.later ++ rest)) in
-      let File : List ℕ → Type 0 = λ xs. GoesOnAs (play_first n (capture bytes)).tale (play_whole (capture bytes))
+      let Whole : Captured → Type 0 = λ c. GoesOnAs way.replay (play_whole c)
+      (λ rest. play_file (cut_file way.replay way.later ++ rest)) in
+      let Was : Played → Type 0 = λ r. GoesOnAs r.replay (play_whole (capture bytes))
+      (λ rest. play_file (cut_file way.replay way.later ++ rest)) in
+      let File : List ℕ → Type 0 = λ xs. GoesOnAs (play_first n (capture bytes)).replay (play_whole (capture bytes))
       (λ rest. play_file (xs ++ rest)) in
       record {
         cuttable = record {
@@ -232,15 +236,15 @@ module _ (n : ℕ) (small : n ≤ 4294967295) (heard heard_now : List Reading) (
       let beyond = first_beyond way.played event more.events n less in
       let numbered = early.number_is in
       let counts = ends.plays.counts in
-      let number_is : number ≡ next_number way.tale.played = omega (arith, numbered, counts, less, small) in
-      let step : event_step way.tale.state (next_number way.tale.played) event ≡ Err fault =
-      ap (λ n. event_step way.tale.state n event) (sym number_is) ∙ fault_at.fault_is
+      let number_is : number ≡ next_number way.replay.played = omega (arith, numbered, counts, less, small) in
+      let step : event_step way.replay.state (next_number way.replay.played) event ≡ Err fault =
+      ap (λ n. event_step way.replay.state n event) (sym number_is) ∙ fault_at.fault_is
       in
       let events : take n (capture bytes).events ≡ way.played ++ event ∷ beyond.0 =
       ap (λ (c : Captured). take n c.events) captured ∙ beyond.1
       in
       let version : (capture bytes).version ≡ way.version = ap (λ (c : Captured). c.version) captured ∙ said.2 in
-      let ending : (play_first n (capture bytes)).ending ≡ play.Faulted (next_number way.tale.played) fault =
+      let ending : (play_first n (capture bytes)).ending ≡ play.Faulted (next_number way.replay.played) fault =
       ap (λ (xs : List Event). (played_events (raised first (capture bytes).version) xs End []).ending) events
       ∙ ap (λ (v : ℕ). (played_events (raised first v) (way.played ++ event ∷ beyond.0) End []).ending) version
       ∙ faults_first n way ends.plays event fault step beyond.0
@@ -261,7 +265,7 @@ module _ (n : ℕ) (small : n ≤ 4294967295) (heard heard_now : List Reading) (
       in
       let file = ap length (file_is n way ends.plays ends.says.last.all (capture bytes)
       (way.later ++ more.events) version events) in
-      let least = longer way.tale way.later more.events in
+      let least = longer way.replay way.later more.events in
       let long = ends.says.long in
       refused (λ cuttable. let fits = cuttable.fits in omega (arith, file, least, long, fits))
 

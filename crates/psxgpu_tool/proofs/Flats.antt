@@ -13,14 +13,14 @@ use Rattle.gpu_capture.specs.Capture.{head_of}
 use Rattle.gpu_taps.specs.Tally.{Reading}
 use Rattle.event_play.specs.Ends.{IsNotEnd}
 use Rattle.event_play.specs.Playing.{whole}
-use Rattle.event_play.specs.Replay.{Tale, Played, played_events, after_event, told_on, go_on, ending_of, next_number}
+use Rattle.event_play.specs.Replay.{Replay, Played, played_events, after_event, told_on, go_on, ending_of, next_number}
 use Rattle.event_play.specs.Replay.{raised}
 use Rattle.event_play.specs.RigState.{RigState}
 use Rattle.event_play.specs.Step.{Machine, event_step, event_cost, event_box_cost, stepped}
-use Rattle.event_play.specs.Work.{work_of}
+use Rattle.event_play.specs.Operation.{operation_of}
 use Rattle.event_play.specs.declared.ending.Ending.TheVariants as play
 use Rattle.event_play.specs.declared.fault.EventFault.{EventFault}
-use Rattle.event_play.specs.declared.work.Work.{Work}
+use Rattle.event_play.specs.declared.operation.Operation.{Operation}
 use Rattle.capture_flat.specs.Flat.{flat_events, flat_replay, flat_asked, then_flat}
 use Rattle.capture_flat.specs.Out.{flat_file, flat_version}
 use Rattle.gpu_capture.specs.Written.{spell}
@@ -77,7 +77,7 @@ flat_four (Stopped n (ReadFault byte)) four = absurd (omega (arith, four))
 -- ---- flat events
 
 -- an event with a fault has none
-asks_none : (s : Machine) (number : ℕ) (asked : Result Work EventFault) (fault : EventFault)
+asks_none : (s : Machine) (number : ℕ) (asked : Result Operation EventFault) (fault : EventFault)
     → stepped s number asked ≡ Err fault → flat_asked s.ram asked ≡ []
 asks_none s number (Ok asked) fault is = absurd cc
 asks_none s number (Err other) fault is = refl
@@ -85,7 +85,7 @@ asks_none s number (Err other) fault is = refl
 fault_none : (s : Machine) (number : ℕ) (event : Event) (fault : EventFault) → event_step s number event ≡ Err fault
     → flat_events s event ≡ []
 unfolding event_step flat_events
-fault_none s number event fault is = asks_none s number (work_of s.ram s.running event) fault is
+fault_none s number event fault is = asks_none s number (operation_of s.ram s.running event) fault is
 
 -- more events make no shorter file
 longer : (version : ℕ) (xs ys : List Event) → length (written version xs) ≤ length (written version (xs ++ ys))
@@ -99,14 +99,14 @@ longer version xs ys =
     omega (arith, a, b, c, d, e, f)
 
 -- the file of events that follow, by the flat events of both
-file_on : (start tale : Tale) (version : ℕ) (events flat more : List Event) → Follows start events tale flat
-    → flat_file start version (events ++ more) ≡ written (flat_version version) (flat ++ flat_replay tale more)
-file_on start tale version events flat more follows = ap (written (flat_version version)) (follows.flats more)
+file_on : (start replay : Replay) (version : ℕ) (events flat more : List Event) → Follows start events replay flat
+    → flat_file start version (events ++ more) ≡ written (flat_version version) (flat ++ flat_replay replay more)
+file_on start replay version events flat more follows = ap (written (flat_version version)) (follows.flats more)
 
-file_of : (start tale : Tale) (version : ℕ) (events flat : List Event) → Follows start events tale flat
+file_of : (start replay : Replay) (version : ℕ) (events flat : List Event) → Follows start events replay flat
     → flat_file start version events ≡ written (flat_version version) flat
-file_of start tale version events flat follows = ap (written (flat_version version))
-    (all_flat start tale events flat follows)
+file_of start replay version events flat follows = ap (written (flat_version version))
+    (all_flat start replay events flat follows)
 
 -- ---- the ending
 
@@ -139,21 +139,21 @@ by_capture bytes captured status is fits ends =
 
 -- a stop after the events that were read
 by_stop : (bytes rest : List ℕ) (way : Way) (number : ℕ) (stop : Stop)
-    → Follows (raised first way.version) way.events way.tale way.flat
+    → Follows (raised first way.version) way.events way.replay way.flat
     → capture bytes ≡ record { version = way.version; events = way.events; ending = stop; rest = rest } → IsNotEnd stop
     → length (flat_file (raised first way.version) way.version way.events) ≤ limit
     → EndsAsFlat bytes (flat_status (Stopped number stop))
 by_stop bytes rest way number stop follows is other fits =
-    let replay : played_events (raised first way.version) way.events stop rest ≡ played_events way.tale [] stop rest =
+    let replay : played_events (raised first way.version) way.events stop rest ≡ played_events way.replay [] stop rest =
     ap (λ events. played_events (raised first way.version) events stop rest) (sym (append-nil way.events))
     ∙ follows.replays [] stop rest
     in
-    let same : flat_status (Stopped (next_number way.tale.played) stop)
+    let same : flat_status (Stopped (next_number way.replay.played) stop)
     ≡ flat_status (Stopped number stop) = same_status stop in
     by_capture bytes _ _ is fits
-    (ap (λ (r : Played). status_of r.ending) replay ∙ stop_status (next_number way.tale.played) stop other ∙ same)
+    (ap (λ (r : Played). status_of r.ending) replay ∙ stop_status (next_number way.replay.played) stop other ∙ same)
   where
-    same_status : (stop : Stop) → flat_status (Stopped (next_number way.tale.played) stop)
+    same_status : (stop : Stop) → flat_status (Stopped (next_number way.replay.played) stop)
         ≡ flat_status (Stopped number stop)
     same_status End = refl
     same_status (NotCapture byte) = refl
@@ -178,7 +178,7 @@ module _ (heard heard_now : List Reading) (before now : Outside) (rig : RigState
       ≡ record { version = way.version; events = way.events; ending = End; rest = is_cut.rest } =
       ap capture is_cut.all ∙ ends.says.says is_cut.rest
       in
-      let is : play_of bytes ≡ whole way.tale is_cut.rest = ap play_of is_cut.all ∙ ends.says.plays is_cut.rest in
+      let is : play_of bytes ≡ whole way.replay is_cut.rest = ap play_of is_cut.all ∙ ends.says.plays is_cut.rest in
       let flat : flat_of (capture bytes)
       ≡ flat_file (raised first way.version) way.version way.events = ap flat_of captured in
       record {
@@ -186,10 +186,10 @@ module _ (heard heard_now : List Reading) (before now : Outside) (rig : RigState
         left = is_cut.left_is ∙ ap (λ (r : Played). Some r.rest) (sym is);
         held = ends.says.held ∙ ap (appended before.out.held) (sym flat);
         fits = subst (λ (c : Captured). length (flat_of c) ≤ limit) (sym captured) ends.fits;
-        is_flat = subst (λ (t : Tale). IsFlatCapture first t (flat_version (capture bytes).version)
+        is_flat = subst (λ (t : Replay). IsFlatCapture first t (flat_version (capture bytes).version)
             (flat_replay (raised first (capture bytes).version) (capture bytes).events) (flat_of (capture bytes)))
-            (ap (λ (r : Played). r.tale) (sym is))
-            (subst (λ (c : Captured). IsFlatCapture first way.tale (flat_version c.version)
+            (ap (λ (r : Played). r.replay) (sym is))
+            (subst (λ (c : Captured). IsFlatCapture first way.replay (flat_version c.version)
             (flat_replay (raised first c.version) c.events) (flat_of c))
             (sym captured) ends.says.is_flat);
       }
@@ -211,36 +211,36 @@ module _ (heard heard_now : List Reading) (before now : Outside) (rig : RigState
       let said = ends.says.says is_cut.rest in
       let more = said.0 in
       let captured = ap capture is_cut.all ∙ said.1 in
-      let step : event_step way.tale.state (next_number way.tale.played) event ≡ Err fault =
-      ap (λ n. event_step way.tale.state n event) (sym ends.says.number_is) ∙ ends.says.fault_is
+      let step : event_step way.replay.state (next_number way.replay.played) event ≡ Err fault =
+      ap (λ n. event_step way.replay.state n event) (sym ends.says.number_is) ∙ ends.says.fault_is
       in
-      let after : after_event way.tale event
-      ≡ Err fault = ap (told_on way.tale event (event_cost way.tale.state event)
-      (event_box_cost way.tale.state event)) step in
+      let after : after_event way.replay event
+      ≡ Err fault = ap (told_on way.replay event (event_cost way.replay.state event)
+      (event_box_cost way.replay.state event)) step in
       let replay : played_events start ((way.events ++ event ∷ []) ++ more.events) more.ending more.rest
-      ≡ record { tale = way.tale; ending = play.Faulted (next_number way.tale.played) fault; rest = more.rest } =
+      ≡ record { replay = way.replay; ending = play.Faulted (next_number way.replay.played) fault; rest = more.rest } =
       ap (λ events. played_events start events more.ending more.rest) (append_assoc way.events (event ∷ []) more.events)
       ∙ ends.follows.replays (event ∷ more.events) more.ending more.rest
       ∙ ap (λ r. go_on r (λ next. played_events next more.events more.ending more.rest)
       (λ fault. record {
-        tale = way.tale;
+        replay = way.replay;
         ending = play.Faulted
-            (next_number way.tale.played) fault;
+            (next_number way.replay.played) fault;
         rest = more.rest;
       })) after
       in
-      let none : flat_replay way.tale (event ∷ more.events) ≡ [] =
-      ap (λ r. flat_events way.tale.state event ++ then_flat r (λ next. flat_replay next more.events)) after
-      ∙ append-nil (flat_events way.tale.state event)
-      ∙ fault_none way.tale.state (next_number way.tale.played) event fault step
+      let none : flat_replay way.replay (event ∷ more.events) ≡ [] =
+      ap (λ r. flat_events way.replay.state event ++ then_flat r (λ next. flat_replay next more.events)) after
+      ∙ append-nil (flat_events way.replay.state event)
+      ∙ fault_none way.replay.state (next_number way.replay.played) event fault step
       in
       let file : flat_file start way.version ((way.events ++ event ∷ []) ++ more.events)
       ≡ flat_file start way.version way.events =
       ap (flat_file start way.version) (append_assoc way.events (event ∷ []) more.events)
-      ∙ file_on start way.tale way.version way.events way.flat (event ∷ more.events) ends.follows
+      ∙ file_on start way.replay way.version way.events way.flat (event ∷ more.events) ends.follows
       ∙ ap (λ xs. written (flat_version way.version) (way.flat ++ xs)) none
       ∙ ap (written (flat_version way.version)) (append-nil way.flat)
-      ∙ sym (file_of start way.tale way.version way.events way.flat ends.follows)
+      ∙ sym (file_of start way.replay way.version way.events way.flat ends.follows)
       in
       let few : length (flat_file start way.version ((way.events ++ event ∷ []) ++ more.events)) ≤ limit =
       subst (λ (xs : List ℕ). length xs ≤ limit) (sym file) ends.fits
@@ -261,9 +261,9 @@ module _ (heard heard_now : List Reading) (before now : Outside) (rig : RigState
       let said = ends.says.last.says is_cut.rest in
       let more = said.0 in
       let captured = ap capture is_cut.all ∙ said.1 in
-      let a = ap length (file_on start way.tale way.version way.events way.flat more.events ends.follows) in
-      let b = ap length (file_of start way.tale way.version way.events way.flat ends.follows) in
-      let c = longer (flat_version way.version) way.flat (flat_replay way.tale more.events) in
+      let a = ap length (file_on start way.replay way.version way.events way.flat more.events ends.follows) in
+      let b = ap length (file_of start way.replay way.version way.events way.flat ends.follows) in
+      let c = longer (flat_version way.version) way.flat (flat_replay way.replay more.events) in
       let d = ends.says.long in
       let long : limit < length (flat_file start way.version (way.events ++ more.events)) = omega (arith, a, b, c, d) in
       let is_long : limit < length (flat_of (capture bytes)) =

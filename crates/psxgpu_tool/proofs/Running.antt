@@ -7,7 +7,7 @@ use Rattle.gpu_core.specs.Kept.{Kept, kept_of}
 use Rattle.gpu_core.specs.Machine.{State}
 use Rattle.gpu_taps.specs.Tally.{Reading}
 use Rattle.event_play.specs.Causes.{MayReadFault, MayWriteFault}
-use Rattle.event_play.specs.Replay.{Tale, Played, next_number}
+use Rattle.event_play.specs.Replay.{Replay, Played, next_number}
 use Rattle.event_play.specs.RigState.{RigState, first_rig}
 use Rattle.event_play.specs.Streams.{without_sink}
 use Rattle.event_play.specs.Told.{told_notes}
@@ -35,7 +35,7 @@ use Rattle.psxgpu_tool.specs.Line.{any_status, any_text}
 use Rattle.psxgpu_tool.specs.Command.{Names, IsUsage}
 use Rattle.psxgpu_tool.specs.CutRun.{CutRun}
 use Rattle.psxgpu_tool.specs.Demo.{demo_events, demo_words}
-use Rattle.psxgpu_tool.specs.DemoOut.{demo_bytes, demo_tale, demo_out, demo_cost, demo_box_cost, cells_cost}
+use Rattle.psxgpu_tool.specs.DemoOut.{demo_bytes, demo_replay, demo_out, demo_cost, demo_box_cost, cells_cost}
 use Rattle.psxgpu_tool.specs.First.{first, seen}
 use Rattle.psxgpu_tool.specs.FlatRun.{FlatRun}
 use Rattle.psxgpu_tool.specs.Line.{status_of, ending_line, ending_text, flat_status, flat_text, slim_status, slim_text}
@@ -264,24 +264,24 @@ module _ (heard heard_now : List Reading) (before now : Outside) (ending : Endin
       → (rig.gpu.parts.regs.height ≡ short_height → now.steps ≤ steps + cells_cost) → now.source ≡ before.source
       → CommandRun (Demo n) heard before now (status_of ending)
   demo_runs n steps rig played ends cost unread =
-      let replay = ap (whole_replay first) (sym (append-nil (demo_events n))) ∙ played.comes [] in
-      let tale : demo_tale n ≡ played.tale = ap (λ (r : Played). r.tale) replay in
-      let told = played.heard ∙ ap (λ (t : Tale). told_notes t.notes heard) (sym tale) in
-      let stands : kept_of (demo_tale n).state.gpu ≡ rig.gpu = ap (λ (t : Tale). kept_of t.state.gpu) tale
+      let whole_is = ap (whole_replay first) (sym (append-nil (demo_events n))) ∙ played.comes [] in
+      let replay : demo_replay n ≡ played.replay = ap (λ (r : Played). r.replay) whole_is in
+      let told = played.heard ∙ ap (λ (t : Replay). told_notes t.notes heard) (sym replay) in
+      let stands : kept_of (demo_replay n).state.gpu ≡ rig.gpu = ap (λ (t : Replay). kept_of t.state.gpu) replay
       ∙ played.stands.state.gpu in
-      let number : next_number rig.played ≡ next_number (demo_tale n).played =
-      ap next_number (sym played.stands.played ∙ ap (λ (t : Tale). t.played) (sym tale))
+      let number : next_number rig.played ≡ next_number (demo_replay n).played =
+      ap next_number (sym played.stands.played ∙ ap (λ (t : Replay). t.played) (sym replay))
       in
-      let bytes : demo_bytes heard_now (demo_tale n).state.gpu ≡ demo_out n heard =
-      ap (λ (heard : List Reading). demo_bytes heard (demo_tale n).state.gpu) told
+      let bytes : demo_bytes heard_now (demo_replay n).state.gpu ≡ demo_out n heard =
+      ap (λ (heard : List Reading). demo_bytes heard (demo_replay n).state.gpu) told
       in
-      let telling = rw (bytes, number) at (tells _ _ ending (ends (demo_tale n).state.gpu stands) says) in
+      let telling = rw (bytes, number) at (tells _ _ ending (ends (demo_replay n).state.gpu stands) says) in
       let height : rig.gpu.parts.regs.height ≡ short_height = ap (λ (k : Kept). k.parts.regs.height)
       (sym played.stands.state.gpu) ∙ played.height ∙ first_short in
-      let spent = ap (λ (t : Tale). t.cost) tale in
+      let spent = ap (λ (t : Replay). t.cost) replay in
       let within : now.steps ≤ before.steps + demo_cost n = let c = cost height in omega
       (arith, c, played.cost, spent) in
-      let boxed : (demo_tale n).cost ≤ (demo_tale n).box_cost =
+      let boxed : (demo_replay n).cost ≤ (demo_replay n).box_cost =
       costs_small first (demo_events n) End [] (omega arith) in
       let within_boxes : now.steps ≤ before.steps + demo_box_cost n = omega (arith, within, boxed) in
       answers (Demo n) heard before now (status_of ending) (known_ending ending) silent
@@ -400,7 +400,7 @@ module _ (n : ℕ) (small : n ≤ 4294967295) (heard heard_now : List Reading) (
 pub nothing_played : (heard : List Reading) (steps : ℕ) (rig : RigState) → rig ≡ first_rig
     → HavePlayed first [] (without_sink heard steps) (without_sink heard steps) rig
 nothing_played heard steps rig is = record {
-  tale = first;
+  replay = first;
   comes = λ more. refl;
   stands = record { state = first_stands rig is; played = sym (ap (λ (r : RigState). r.played) is) };
   heard = refl;

@@ -9,7 +9,7 @@ use Rattle.gpu_capture.specs.declared.event.Stop.{Stop}
 use Rattle.gpu_capture.specs.declared.event.Stop.TheVariants.{End, NotCapture, Truncated, BadRecord}
 use Rattle.gpu_capture.specs.declared.event.Stop.TheVariants.{TooLong as LongIn, ReadFault}
 use Rattle.event_play.specs.Ports.{IsAtPorts, AreAtPorts}
-use Rattle.event_play.specs.Replay.{Tale}
+use Rattle.event_play.specs.Replay.{Replay}
 use Rattle.dead_drawing.specs.Dead.{window_events}
 use Rattle.dead_drawing.specs.Laws.{height_for}
 use Rattle.dead_drawing.specs.Slim.{slim_events}
@@ -75,7 +75,7 @@ abbrev whole_of : Way → (rest : List ℕ) → Captured
 whole_of way rest = record { version = way.version; events = way.events; ending = End; rest = rest }
 
 -- what was written of a capture is a capture, and replays alike
-abbrev IsSlimOf : Tale → Captured → Type 0
+abbrev IsSlimOf : Replay → Captured → Type 0
 IsSlimOf t c = IsFlatCapture first t c.version (slim_events (height_for c.version) c.events) (slim_of c)
 
 module _ (before now : Outside) (bytes : List ℕ) (told : before.source.left ≡ Some bytes) where
@@ -99,8 +99,8 @@ module _ (before now : Outside) (bytes : List ℕ) (told : before.source.left �
         left = is_cut.left_is ∙ ap (λ (c : Captured). Some c.rest) (sym captured);
         held = ends.says.held ∙ ap (λ (c : Captured). appended before.out.held (slim_of c)) (sym captured);
         fits = subst (λ (c : Captured). length (slim_of c) ≤ limit) (sym captured) ends.says.fits;
-        is_slim = subst (λ (c : Captured). IsSlimOf (play_of bytes).tale c) (sym captured)
-            (subst (λ (given : List ℕ). IsSlimOf (play_of given).tale (whole_of way is_cut.rest)) (sym is_cut.all)
+        is_slim = subst (λ (c : Captured). IsSlimOf (play_of bytes).replay c) (sym captured)
+            (subst (λ (given : List ℕ). IsSlimOf (play_of given).replay (whole_of way is_cut.rest)) (sym is_cut.all)
             (ends.says.is_slim is_cut.rest));
       }
 

@@ -7,7 +7,7 @@ use Rattle.gpu_taps.specs.Tally.{Reading}
 use Rattle.event_play.specs.Causes.{MayReadFault, MayWriteFault}
 use Rattle.event_play.specs.Out.{lines_of, unless_lacking, ending_under, finals_at, out_bytes, out_cost, out_box_cost}
 use Rattle.event_play.specs.Playing.{EndsPlay, whole}
-use Rattle.event_play.specs.Replay.{Tale, Played, played_script, next_number}
+use Rattle.event_play.specs.Replay.{Replay, Played, played_script, next_number}
 use Rattle.event_play.specs.RigState.{RigState}
 use Rattle.event_play.specs.Told.{told_notes}
 use Rattle.event_play.specs.declared.ending.Ending.{Ending}
@@ -26,7 +26,7 @@ use Rattle.psxgpu_tool.specs.First.{file_ending, file_script, first, play_file, 
 use Rattle.psxgpu_tool.specs.Line.{status_of, ending_line, ending_text, any_status, any_text}
 use Rattle.psxgpu_tool.specs.Outside.{Outside, Says}
 use Rattle.psxgpu_tool.specs.PlayRun.{WholeRun, RefusedRun, StarvedRun, BlockedRun}
-use Rattle.event_play.specs.Course.{at_end}
+use Rattle.event_play.specs.PlayInput.{at_end}
 
 -- ---- endings
 
@@ -48,7 +48,7 @@ stays_under : (mode : Mode) (r : Played) (ending : Ending) → r.ending ≡ endi
 stays_under mode r ending is other = ap (unless_lacking _ _) is ∙ stays _ _ ending other
 
 -- a replay that is not complete has no output after its events
-no_finals : (mode : Mode) (heard : List Reading) (t : Tale) (ending : Ending) → IsNotDone ending
+no_finals : (mode : Mode) (heard : List Reading) (t : Replay) (ending : Ending) → IsNotDone ending
     → finals_at ending mode (told_notes t.notes heard) (next_number t.played) t.state.gpu ≡ []
 no_finals mode heard t Done other = absurd other
 no_finals mode heard t (Stopped n stop) other = refl
@@ -57,21 +57,21 @@ no_finals mode heard t (NoPicture n) other = refl
 no_finals mode heard t (WriteFailed n) other = refl
 
 -- the whole output of a replay, given its state and its ending
-out_is : (mode : Mode) (heard : List Reading) (r : Played) (t : Tale) (ending : Ending) → r.tale ≡ t
+out_is : (mode : Mode) (heard : List Reading) (r : Played) (t : Replay) (ending : Ending) → r.replay ≡ t
     → ending_under mode r ≡ ending
     → out_bytes mode heard r ≡ lines_of mode t
     ++ finals_at ending mode (told_notes t.notes heard) (next_number t.played) t.state.gpu
-out_is mode heard r t ending tale is =
-    ap (λ (e : Ending). lines_of mode r.tale
-    ++ finals_at e mode (told_notes r.tale.notes heard) (next_number r.tale.played) r.tale.state.gpu) is
-    ∙ ap (λ (t : Tale). lines_of mode t
-    ++ finals_at ending mode (told_notes t.notes heard) (next_number t.played) t.state.gpu) tale
+out_is mode heard r t ending replay is =
+    ap (λ (e : Ending). lines_of mode r.replay
+    ++ finals_at e mode (told_notes r.replay.notes heard) (next_number r.replay.played) r.replay.state.gpu) is
+    ∙ ap (λ (t : Replay). lines_of mode t
+    ++ finals_at ending mode (told_notes t.notes heard) (next_number t.played) t.state.gpu) replay
 
-lines_are : (mode : Mode) (heard : List Reading) (r : Played) (t : Tale) (ending : Ending) → r.tale ≡ t
+lines_are : (mode : Mode) (heard : List Reading) (r : Played) (t : Replay) (ending : Ending) → r.replay ≡ t
     → ending_under mode r ≡ ending
     → IsNotDone ending → lines_of mode t ≡ out_bytes mode heard r
-lines_are mode heard r t ending tale is other =
-    sym (out_is mode heard r t ending tale is ∙ ap (λ xs. lines_of mode t ++ xs) (no_finals mode heard t ending other)
+lines_are mode heard r t ending replay is other =
+    sym (out_is mode heard r t ending replay is ∙ ap (λ xs. lines_of mode t ++ xs) (no_finals mode heard t ending other)
     ∙ append-nil (lines_of mode t))
 
 -- ---- statuses
@@ -162,20 +162,20 @@ if_told (Some bytes) P fact = fact bytes refl
 
 -- it ended as the capture does, and the whole output was written
 pub record EndsCaptured (mode : Mode) (heard : List Reading) (bytes taken rest : List ℕ) (before now : Outside)
-    (t : Tale) (ending : Ending)
+    (t : Replay) (ending : Ending)
     : Type 0 where
   pub ends : ending_under mode (play_file bytes) ≡ ending
-  pub tale : (play_file bytes).tale ≡ t
+  pub replay : (play_file bytes).replay ≡ t
   pub held : now.out.held ≡ appended before.out.held (out_bytes mode heard (play_file bytes))
   pub decides : ((more : List ℕ) → ending_under mode (play_file (taken ++ more)) ≡ ending) ⊎ (rest ≡ [])
 
 -- a file without an invalid word ends as it is played
 good_any : (found : Opened) (ending : Ending) → HasNoBadWord found → any_ending found ending ≡ any.Played ending
 good_any (Captured version rest) ending good = refl
-good_any (Restored s place rest) ending good = refl
-good_any (Unknown place rest) ending good = refl
-good_any (BreaksOff place) ending good = refl
-good_any (BadWord place word) ending good = absurd good
+good_any (Restored s offset rest) ending good = refl
+good_any (Unknown offset rest) ending good = refl
+good_any (BreaksOff offset) ending good = refl
+good_any (BadWord offset word) ending good = absurd good
 
 file_by : (mode : Mode) (bytes : List ℕ) (ending : Ending) → HasNoBadWord (opened bytes)
     → ending_under mode (play_file bytes) ≡ ending → file_ending mode bytes ≡ any.Played ending
@@ -196,91 +196,92 @@ module _ (mode : Mode) (heard heard_now : List Reading) (before now : Outside) (
   taken_of ending ends = cut bytes ends.taken now.source.left (sym told ∙ ends.bytes)
 
   -- a replay with these parts
-  captured_by : (ending : Ending) (taken rest : List ℕ) (t : Tale) → (play_file bytes).tale ≡ t
+  captured_by : (ending : Ending) (taken rest : List ℕ) (t : Replay) → (play_file bytes).replay ≡ t
       → (play_file bytes).ending ≡ ending → IsNotDone ending
       → now.out.held ≡ appended before.out.held (lines_of mode t)
       → ((more : List ℕ) → ending_under mode (play_file (taken ++ more)) ≡ ending) ⊎ (rest ≡ [])
       → EndsCaptured mode heard bytes taken rest before now t ending
-  captured_by ending taken rest t tale is other held decides =
+  captured_by ending taken rest t replay is other held decides =
       let ends = stays_under mode (play_file bytes) ending is other in
       record {
         ends = ends;
-        tale = tale;
-        held = held ∙ ap (appended before.out.held) (lines_are mode heard (play_file bytes) t ending tale ends other);
+        replay = replay;
+        held = held ∙ ap (appended before.out.held) (lines_are mode heard (play_file bytes) t ending replay ends other);
         decides = decides;
       }
 
   -- a stop that the bytes read decide
-  stopped : (taken rest : List ℕ) (t : Tale) (ending : Ending) → bytes ≡ taken ++ rest
-      → ((rest : List ℕ) → play_file (taken ++ rest) ≡ record { tale = t; ending = ending; rest = rest })
+  stopped : (taken rest : List ℕ) (t : Replay) (ending : Ending) → bytes ≡ taken ++ rest
+      → ((rest : List ℕ) → play_file (taken ++ rest) ≡ record { replay = t; ending = ending; rest = rest })
       → IsNotDone ending
       → now.out.held ≡ appended before.out.held (lines_of mode t)
       → EndsCaptured mode heard bytes taken rest before now t ending
   stopped taken rest t ending all says other held =
-      let is : play_file bytes ≡ record { tale = t; ending = ending; rest = rest } = ap play_file all ∙ says rest in
-      captured_by ending taken rest t (ap (λ (r : Played). r.tale) is) (ap (λ (r : Played). r.ending) is) other held
+      let is : play_file bytes ≡ record { replay = t; ending = ending; rest = rest } = ap play_file all ∙ says rest in
+      captured_by ending taken rest t (ap (λ (r : Played). r.replay) is) (ap (λ (r : Played). r.ending) is) other held
       (inl (λ more. stays_under mode (play_file (taken ++ more)) ending
       (ap (λ (r : Played). r.ending) (says more)) other))
 
   captured : (ending : Ending) (ends : Ends ending) → (MayReadFault ending → ⊥) → (MayWriteFault ending → ⊥)
-      → EndsCaptured mode heard bytes ends.taken (taken_of ending ends).rest before now ends.tale ending
+      → EndsCaptured mode heard bytes ends.taken (taken_of ending ends).rest before now ends.replay ending
   captured Done ends read write =
       let is_cut = taken_of Done ends in
-      let is : play_file bytes ≡ whole ends.tale is_cut.rest = ap play_file is_cut.all ∙ ends.says.0 is_cut.rest in
+      let is : play_file bytes ≡ whole ends.replay is_cut.rest = ap play_file is_cut.all ∙ ends.says.0 is_cut.rest in
       let done : ending_under mode (play_file bytes) ≡ Done = ap (ending_under mode) is ∙ ends.says.1 in
-      let tale : (play_file bytes).tale ≡ ends.tale = ap (λ (r : Played). r.tale) is in
+      let replay : (play_file bytes).replay ≡ ends.replay = ap (λ (r : Played). r.replay) is in
       record {
         ends = done;
-        tale = tale;
+        replay = replay;
         held = ends.says.2 ∙ ap (appended before.out.held)
-            (sym (out_is mode heard (play_file bytes) ends.tale Done tale done));
+            (sym (out_is mode heard (play_file bytes) ends.replay Done replay done));
         decides = inl (λ more. ap (ending_under mode) (ends.says.0 more) ∙ ends.says.1);
       }
   captured (NoPicture number) ends read write =
       let is_cut = taken_of (NoPicture number) ends in
-      let is : play_file bytes ≡ whole ends.tale is_cut.rest = ap play_file is_cut.all ∙ ends.says.0 is_cut.rest in
+      let is : play_file bytes ≡ whole ends.replay is_cut.rest = ap play_file is_cut.all ∙ ends.says.0 is_cut.rest in
       let none : ending_under mode (play_file bytes) ≡ NoPicture number = ap (ending_under mode) is ∙ ends.says.1 in
-      let tale : (play_file bytes).tale ≡ ends.tale = ap (λ (r : Played). r.tale) is in
+      let replay : (play_file bytes).replay ≡ ends.replay = ap (λ (r : Played). r.replay) is in
       record {
         ends = none;
-        tale = tale;
+        replay = replay;
         held = ends.says.2 ∙ ap (appended before.out.held)
-            (lines_are mode heard (play_file bytes) ends.tale (NoPicture number) tale none tt);
+            (lines_are mode heard (play_file bytes) ends.replay (NoPicture number) replay none tt);
         decides = inl (λ more. ap (ending_under mode) (ends.says.0 more) ∙ ends.says.1);
       }
   captured (WriteFailed number) ends read write = absurd (write tt)
   captured (Faulted number fault) ends read write =
       let is_cut = taken_of (Faulted number fault) ends in
       let same = ap play_file is_cut.all in
-      captured_by (Faulted number fault) ends.taken is_cut.rest ends.tale
-      (ap (λ (r : Played). r.tale) same ∙ (ends.says.0 is_cut.rest).0)
+      captured_by (Faulted number fault) ends.taken is_cut.rest ends.replay
+      (ap (λ (r : Played). r.replay) same ∙ (ends.says.0 is_cut.rest).0)
       (ap (λ (r : Played). r.ending) same ∙ (ends.says.0 is_cut.rest).1) tt ends.says.1
       (inl (λ more. stays_under mode (play_file (ends.taken ++ more)) (Faulted number fault) (ends.says.0 more).1 tt))
   captured (Stopped number (ReadFault byte)) ends read write = absurd (read tt)
   captured (Stopped number (Truncated byte)) ends read write =
       let is_cut = taken_of (Stopped number (Truncated byte)) ends in
       let none = none_left now.source.left is_cut.rest is_cut.left_is ends.says.2 in
-      let is : play_file bytes ≡ record { tale = ends.tale; ending = Stopped number (Truncated byte); rest = [] } =
+      let is : play_file bytes ≡ record { replay = ends.replay; ending = Stopped number (Truncated byte); rest = [] } =
       ap play_file (all_taken bytes ends.taken is_cut.rest is_cut.all none) ∙ ends.says.0
       in
-      captured_by (Stopped number (Truncated byte)) ends.taken is_cut.rest ends.tale
-      (ap (λ (r : Played). r.tale) is) (ap (λ (r : Played). r.ending) is) tt ends.says.1 (inr none)
+      captured_by (Stopped number (Truncated byte)) ends.taken is_cut.rest ends.replay
+      (ap (λ (r : Played). r.replay) is) (ap (λ (r : Played). r.ending) is) tt ends.says.1 (inr none)
   captured (Stopped number End) ends read write =
       let is_cut = taken_of (Stopped number End) ends in
-      stopped ends.taken is_cut.rest ends.tale (Stopped number End) is_cut.all ends.says.0 tt ends.says.1
+      stopped ends.taken is_cut.rest ends.replay (Stopped number End) is_cut.all ends.says.0 tt ends.says.1
   captured (Stopped number (NotCapture byte)) ends read write =
       let is_cut = taken_of (Stopped number (NotCapture byte)) ends in
-      stopped ends.taken is_cut.rest ends.tale (Stopped number (NotCapture byte)) is_cut.all ends.says.0 tt ends.says.1
+      stopped ends.taken is_cut.rest ends.replay
+      (Stopped number (NotCapture byte)) is_cut.all ends.says.0 tt ends.says.1
   captured (Stopped number (BadRecord byte word)) ends read write =
       let is_cut = taken_of (Stopped number (BadRecord byte word)) ends in
-      stopped ends.taken is_cut.rest ends.tale (Stopped number
+      stopped ends.taken is_cut.rest ends.replay (Stopped number
       (BadRecord byte word)) is_cut.all ends.says.0 tt ends.says.1
   captured (Stopped number (TooLong byte)) ends read write =
       let is_cut = taken_of (Stopped number (TooLong byte)) ends in
-      stopped ends.taken is_cut.rest ends.tale (Stopped number (TooLong byte)) is_cut.all ends.says.0 tt ends.says.1
+      stopped ends.taken is_cut.rest ends.replay (Stopped number (TooLong byte)) is_cut.all ends.says.0 tt ends.says.1
 
   -- the rig and the taps are as after the replay
-  last_of : (ending : Ending) (ends : Ends ending) → (MayWriteFault ending → ⊥) → ends.last ≡ ends.tale
+  last_of : (ending : Ending) (ends : Ends ending) → (MayWriteFault ending → ⊥) → ends.last ≡ ends.replay
   last_of Done ends write = ends.is_last
   last_of (NoPicture number) ends write = ends.is_last
   last_of (Stopped number stop) ends write = ends.is_last
@@ -340,7 +341,7 @@ module _ (mode : Mode) (heard heard_now : List Reading) (before now : Outside) (
   whole_by both =
       let ends = both.0 in
       let is_cut = taken_of Done ends in
-      let is : play_file bytes ≡ whole ends.tale is_cut.rest = ap play_file is_cut.all ∙ ends.says.0 is_cut.rest in
+      let is : play_file bytes ≡ whole ends.replay is_cut.rest = ap play_file is_cut.all ∙ ends.says.0 is_cut.rest in
       record {
         ending = (file_ends Done ends both.1 (λ may. may) (λ may. may)).ends;
         left = is_cut.left_is ∙ ap (λ (r : Played). Some r.rest) (sym is);
@@ -360,11 +361,11 @@ module _ (mode : Mode) (heard heard_now : List Reading) (before now : Outside) (
       let captured = captured ending ends read write in
       let file = file_ends ending ends both.1 read write in
       let notes = ends.heard
-      ∙ ap (λ (t : Tale). told_notes t.notes heard) (last_of ending ends write ∙ sym captured.tale) in
+      ∙ ap (λ (t : Replay). told_notes t.notes heard) (last_of ending ends write ∙ sym captured.replay) in
       let text : ending_text ending heard_now
-      ≡ any_text (file_ending mode bytes) (told_notes (play_file bytes).tale.notes heard) =
+      ≡ any_text (file_ending mode bytes) (told_notes (play_file bytes).replay.notes heard) =
       ap (ending_text ending) notes
-      ∙ ap (λ (e : AnyEnding). any_text e (told_notes (play_file bytes).tale.notes heard)) (sym file.ends)
+      ∙ ap (λ (e : AnyEnding). any_text e (told_notes (play_file bytes).replay.notes heard)) (sym file.ends)
       in
       record {
         status = ap any_status file.ends ∙ two;
@@ -400,8 +401,8 @@ module _ (mode : Mode) (heard heard_now : List Reading) (before now : Outside) (
         byte = byte;
         ending = file_by mode ends.taken (Stopped number (Truncated byte)) both.1 short;
         held = ends.says.1 ∙ ap (appended before.out.held)
-            (lines_are mode heard (play_file ends.taken) ends.tale (Stopped number (Truncated byte))
-            (ap (λ (r : Played). r.tale) is) short tt);
+            (lines_are mode heard (play_file ends.taken) ends.replay (Stopped number (Truncated byte))
+            (ap (λ (r : Played). r.replay) is) short tt);
         says = says;
       }
 
@@ -423,12 +424,12 @@ module _ (mode : Mode) (heard heard_now : List Reading) (before now : Outside) (
         all = is_cut.all;
         left = is_cut.left_is;
         event = number;
-        tale = ends.tale;
+        replay = ends.replay;
         last = ends.last;
         lacks = record {
           number_is = lacks.number_is;
           start = lacks.start;
-          place = lacks.place;
+          origin = lacks.origin;
           due = lacks.due;
           held = lacks.held;
           prefix = lacks.prefix;
@@ -496,21 +497,21 @@ module _ (mode : Mode) (heard heard_now : List Reading) (before now : Outside) (
   bad_nothing : out_bytes mode heard (play_file bytes) ≡ []
   bad_nothing =
       let ending = Stopped (next_number first.played) (BadRecord byte word) in
-      let tale : (play_file bytes).tale ≡ first = ap (λ (r : Played). r.tale) bad_played in
+      let replay : (play_file bytes).replay ≡ first = ap (λ (r : Played). r.replay) bad_played in
       let is = stays_under mode (play_file bytes) ending (ap (λ (r : Played). r.ending) bad_played) tt in
-      sym (lines_are mode heard (play_file bytes) first ending tale is tt) ∙ lines-none mode
+      sym (lines_are mode heard (play_file bytes) first ending replay is tt) ∙ lines-none mode
 
   pub bad_refused : Says before.err now.err (any_text (any.BadSnapshot byte word) heard_now)
       → RefusedRun mode heard bytes before now
   bad_refused says =
       let ends = bad_ending bytes bad_found in
-      let notes : told_notes (play_file bytes).tale.notes heard ≡ heard =
-      ap (λ (r : Played). told_notes r.tale.notes heard) bad_played
+      let notes : told_notes (play_file bytes).replay.notes heard ≡ heard =
+      ap (λ (r : Played). told_notes r.replay.notes heard) bad_played
       in
       let text : any_text (any.BadSnapshot byte word) heard_now
-      ≡ any_text (file_ending mode bytes) (told_notes (play_file bytes).tale.notes heard) =
+      ≡ any_text (file_ending mode bytes) (told_notes (play_file bytes).replay.notes heard) =
       ap (any_text (any.BadSnapshot byte word)) (finds.heard ∙ sym notes)
-      ∙ ap (λ (e : AnyEnding). any_text e (told_notes (play_file bytes).tale.notes heard)) (sym ends)
+      ∙ ap (λ (e : AnyEnding). any_text e (told_notes (play_file bytes).replay.notes heard)) (sym ends)
       in
       record {
         status = ap any_status ends;

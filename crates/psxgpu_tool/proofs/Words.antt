@@ -9,30 +9,30 @@ use Rattle.gpu_capture.specs.declared.event.Event.{Event}
 use Rattle.gpu_capture.specs.declared.event.Event.TheVariants.{Gp0}
 use Rattle.gpu_core.specs.Machine.{State, after_gp0}
 use Rattle.gpu_taps.specs.Tally.{Reading, reading_after}
-use Rattle.event_play.specs.Replay.{Tale, next_number}
+use Rattle.event_play.specs.Replay.{Replay, next_number}
 use Rattle.event_play.specs.RigState.{RigState, Stands}
 use Rattle.event_play.specs.Step.{Machine, Stepped, event_step, event_cost, event_box_cost}
-use Rattle.event_play.specs.Frames.{frames_behind}
+use Rattle.event_play.specs.Frames.{frames_after}
 use Rattle.event_play.specs.Stepping.{HasStepped, numbered}
 use Rattle.event_play.specs.Streams.{Outlets}
-use Rattle.event_play.specs.Strokes.{event_strokes}
+use Rattle.event_play.specs.Changes.{event_changes}
 use Rattle.event_play.specs.Told.{told_notes}
 use Rattle.event_play.specs.declared.fault.EventFault.{EventFault}
 use Rattle.psxgpu_tool.specs.Demo.{packet, number_before, first_packets}
 use Rattle.psxgpu_tool.specs.Words.{HavePlayed, whole_replay}
 use Rattle.psxgpu_tool.proofs.Generating.{lists_more}
 use Rattle.psxgpu_tool.proofs.Heights.{feed_height}
-use Rattle.event_play.specs.Setting.{setting}
+use Rattle.event_play.specs.PlayState.{play_state}
 
 -- the state after one more event
-abbrev tale_on : Tale → Event → Machine → Option ℕ → List Note → Tale
-tale_on t event machine shown notes = record {
+abbrev replay_on : Replay → Event → Machine → Option ℕ → List Note → Replay
+replay_on t event machine shown notes = record {
   state = machine;
   played = next_number t.played;
   shown = t.shown ++ option_to_list shown;
-  frames = t.frames ++ frames_behind event (next_number t.played) machine.gpu.parts;
+  frames = t.frames ++ frames_after event (next_number t.played) machine.gpu.parts;
   notes = t.notes ++ notes;
-  strokes = t.strokes ++ event_strokes t.state (next_number t.played) event;
+  changes = t.changes ++ event_changes t.state (next_number t.played) event;
   cost = t.cost + event_cost t.state event;
   box_cost = t.box_cost + event_box_cost t.state event;
 }
@@ -42,9 +42,9 @@ gpu_after s (Ok stepped) = stepped.machine.gpu
 gpu_after s (Err fault) = s
 
 -- an event without a fault
-event_on : (t : Tale) (event : Event) (more : List Event) (machine : Machine) (shown : Option ℕ) (notes : List Note)
+event_on : (t : Replay) (event : Event) (more : List Event) (machine : Machine) (shown : Option ℕ) (notes : List Note)
     → event_step t.state (next_number t.played) event ≡ Ok (record { machine = machine; shown = shown; notes = notes })
-    → whole_replay t (event ∷ more) ≡ whole_replay (tale_on t event machine shown notes) more
+    → whole_replay t (event ∷ more) ≡ whole_replay (replay_on t event machine shown notes) more
 event_on t event more machine shown notes is = rw is refl
 
 -- it keeps the height
@@ -62,28 +62,28 @@ events_before words word more =
     ap (λ (events : List Event). events ++ more) (map-append Gp0 words (word ∷ []))
     ∙ append_assoc (map Gp0 words) (Gp0 word ∷ []) more
 
-module _ (first : Tale) (words : List ℕ) (word : ℕ) (start before now : Outlets) (was rig : RigState) where
+module _ (first : Replay) (words : List ℕ) (word : ℕ) (start before now : Outlets) (was rig : RigState) where
   -- one more word was played
   stepped_on : (played : HavePlayed first words start before was) (shown : Option ℕ)
-      → HasStepped played.tale.state (numbered (next_number was.played) (Gp0 word)) shown before (setting now rig)
+      → HasStepped played.replay.state (numbered (next_number was.played) (Gp0 word)) shown before (play_state now rig)
       → rig.played ≡ next_number was.played
       → HavePlayed first (words ++ word ∷ []) start now rig
   stepped_on played shown step count =
       let number = ap next_number played.stands.played in
-      let is : event_step played.tale.state (next_number played.tale.played) (Gp0 word)
+      let is : event_step played.replay.state (next_number played.replay.played) (Gp0 word)
       ≡ Ok (record { machine = step.machine; shown = shown; notes = step.notes }) =
       rw number step.is
       in
       record {
-        tale = tale_on played.tale (Gp0 word) step.machine shown step.notes;
+        replay = replay_on played.replay (Gp0 word) step.machine shown step.notes;
         comes = λ more. ap (whole_replay first) (events_before words word more) ∙ played.comes (Gp0 word ∷ more)
-            ∙ event_on played.tale (Gp0 word) more step.machine shown step.notes is;
+            ∙ event_on played.replay (Gp0 word) more step.machine shown step.notes is;
         stands = record { state = step.stands; played = number ∙ sym count };
         heard = step.heard ∙ ap (told_notes step.notes) played.heard
             ∙ sym (fold-append (λ (heard : List Reading) (note : Note). map
-            (reading_after note) heard) start.heard played.tale.notes step.notes);
+            (reading_after note) heard) start.heard played.replay.notes step.notes);
         cost = omega (arith, step.cost, played.cost);
-        height = word_height played.tale.state (next_number was.played) word shown step.machine step.notes step.is
+        height = word_height played.replay.state (next_number was.played) word shown step.machine step.notes step.is
             ∙ played.height;
       }
 
@@ -94,17 +94,17 @@ module _ (first : Tale) (words : List ℕ) (word : ℕ) (start before now : Outl
 
   pub word_on : (r : Result (Option ℕ) EventFault) → HavePlayed first words start before was
       → ((s : Machine) → Stands was s → IfOk r (λ shown.
-      HasStepped s (numbered (next_number was.played) (Gp0 word)) shown before (setting now rig)))
+      HasStepped s (numbered (next_number was.played) (Gp0 word)) shown before (play_state now rig)))
       → OnOk r (rig.played ≡ next_number was.played)
       → ((s : Machine) → Stands was s → IfErr r (λ fault. event_step s (next_number was.played) (Gp0 word) ≡ Err fault))
       → HavePlayed first (words ++ word ∷ []) start now rig
   word_on (Ok shown) played stepped count fault = stepped_on played shown
-      (stepped played.tale.state played.stands.state) count
+      (stepped played.replay.state played.stands.state) count
   word_on (Err why) played stepped count fault =
-      absurd (no_fault played.tale.state (next_number was.played) why (fault played.tale.state played.stands.state))
+      absurd (no_fault played.replay.state (next_number was.played) why (fault played.replay.state played.stands.state))
 
 -- no more words
-pub none_on : (first : Tale) (words : List ℕ) (start now : Outlets) (rig : RigState)
+pub none_on : (first : Replay) (words : List ℕ) (start now : Outlets) (rig : RigState)
     → HavePlayed first words start now rig
     → HavePlayed first (words ++ []) start now rig
 none_on first words start now rig played = rw append-nil played
@@ -116,19 +116,21 @@ take_next (x ∷ xs) (suc i) lt = let e : suc i + 1
     ≡ suc (i + 1) = omega arith in rw e (ap (λ ys. x ∷ ys) (take_next xs i (omega (arith, lt))))
 
 -- the next of some words
-pub words_next : (first : Tale) (done words : List ℕ) (i : ℕ) (start now : Outlets) (rig : RigState) → i < length words
+pub words_next : (first : Replay) (done words : List ℕ) (i : ℕ) (start now : Outlets) (rig : RigState)
+    → i < length words
     → HavePlayed first ((done ++ take i words) ++ get_or words i 0 ∷ []) start now rig
     → HavePlayed first (done ++ take (i + 1) words) start now rig
 words_next first done words i start now rig lt played =
     rw (take_next words i lt, ← append_assoc done (take i words) (get_or words i 0 ∷ [])) played
 
 -- all of them
-pub words_all : (first : Tale) (done words : List ℕ) (i : ℕ) (start now : Outlets) (rig : RigState) → length words ≤ i
+pub words_all : (first : Replay) (done words : List ℕ) (i : ℕ) (start now : Outlets) (rig : RigState) → length words ≤ i
     → HavePlayed first (done ++ take i words) start now rig → HavePlayed first (done ++ words) start now rig
 words_all first done words i start now rig le played = rw (take_all i words le) at played
 
 -- the packets up to one more
-pub packet_on : (first : Tale) (done : List ℕ) (n k number : ℕ) (words : List ℕ) (start now : Outlets) (rig : RigState)
+pub packet_on : (first : Replay) (done : List ℕ) (n k number : ℕ) (words : List ℕ) (start now : Outlets)
+    (rig : RigState)
     → number ≡ number_before n k → words ≡ packet k number
     → HavePlayed first ((done ++ first_packets n k) ++ words) start now rig
     → HavePlayed first (done ++ first_packets n (k + 1)) start now rig

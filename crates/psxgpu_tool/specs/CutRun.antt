@@ -7,7 +7,7 @@ use Rattle.gpu_capture.specs.declared.event.Stop.TheVariants.{End}
 use Rattle.gpu_taps.specs.Tally.{Reading}
 use Rattle.picture_out.specs.Dump.{dump_cost}
 use Rattle.event_play.specs.Out.{lines_of, out_bytes}
-use Rattle.event_play.specs.Replay.{Played, played_events, Tale, raised}
+use Rattle.event_play.specs.Replay.{Played, played_events, Replay, raised}
 use Rattle.event_play.specs.RigState.{RigState}
 use Rattle.event_play.specs.Told.{told_notes}
 use Rattle.event_play.specs.declared.ending.Ending.TheVariants.{Done}
@@ -26,7 +26,7 @@ play_first n captured = played_events (raised first captured.version) (take n ca
 
 -- the state after them, the records of the others, and an End record
 abbrev pub cut_of : (n : ℕ) → Captured → List ℕ
-cut_of n captured = cut_file (play_first n captured).tale (drop n captured.events)
+cut_of n captured = cut_file (play_first n captured).replay (drop n captured.events)
 
 -- a capture can be cut: it is complete and has at least n events, none of the first n has a fault, and the file is not
 -- too long
@@ -37,7 +37,7 @@ pub record IsCuttable (n : ℕ) (captured : Captured) : Type 0 where
   pub fits : length (cut_of n captured) ≤ limit
 
 -- the steps are at most `cost` and those of reading all cells once
-abbrev pub IsWithin : (cost : ℕ) → Tale → (before now : Outside) → Type 0
+abbrev pub IsWithin : (cost : ℕ) → Replay → (before now : Outside) → Type 0
 IsWithin cost t before now = now.steps ≤ before.steps + cost + dump_cost t.state.gpu.parts.m
 
 -- the whole capture, if the bytes `rest` follow it
@@ -46,7 +46,7 @@ play_whole captured rest = played_events (raised first captured.version) capture
 
 -- A file continues the capture that was cut, whatever bytes follow it. The output of the whole capture is that of the
 -- state `was` followed by that of the file, for taps that received the notes of the first events. Both end alike.
-pub record GoesOnAs (was : Tale) (whole file : (rest : List ℕ) → Played) : Type 0 where
+pub record GoesOnAs (was : Replay) (whole file : (rest : List ℕ) → Played) : Type 0 where
   pub writes : (mode : Mode) (heard : List Reading) (rest : List ℕ)
       → out_bytes mode heard (whole rest) ≡ lines_of mode was ++ out_bytes mode (told_notes was.notes heard) (file rest)
   pub ends : (rest : List ℕ) → EndAlike (file rest) (whole rest)
@@ -60,9 +60,10 @@ pub record CutWhole (n : ℕ) (bytes : List ℕ) (before now : Outside) : Type 0
   pub cuttable : IsCuttable n (capture bytes)
   pub left : now.source.left ≡ Some (capture bytes).rest
   pub held : now.out.held ≡ appended before.out.held (cut_of n (capture bytes))
-  pub goes_on : GoesOnAs (play_first n (capture bytes)).tale (play_whole (capture bytes)) (play_cut n (capture bytes))
-  pub cost : IsWithin (play_first n (capture bytes)).tale.cost (play_first n (capture bytes)).tale before now
-  pub box_cost : IsWithin (play_first n (capture bytes)).tale.box_cost (play_first n (capture bytes)).tale before now
+  pub goes_on : GoesOnAs (play_first n (capture bytes)).replay (play_whole (capture bytes)) (play_cut n (capture bytes))
+  pub cost : IsWithin (play_first n (capture bytes)).replay.cost (play_first n (capture bytes)).replay before now
+  pub box_cost : IsWithin (play_first n (capture bytes)).replay.box_cost
+      (play_first n (capture bytes)).replay before now
 
 -- the status given the capture alone: it is cut, or refused because it cannot be cut
 abbrev pub EndsAsCut : (n : ℕ) → Captured → (status : ℕ) → Type 0

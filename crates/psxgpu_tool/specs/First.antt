@@ -1,7 +1,7 @@
 -- A capture on a new machine.
 use Rattle.std.specs.Prelude.{ℕ, List}
 use Rattle.gpu_taps.specs.Tally.{Reading}
-use Rattle.event_play.specs.Replay.{Tale, Played, Script, played_capture, from_state}
+use Rattle.event_play.specs.Replay.{Replay, Played, Script, played_capture, from_state}
 use Rattle.event_play.specs.Step.{first_machine}
 use Rattle.event_play.specs.Streams.{Streams, streams}
 use Rattle.event_play.specs.declared.ending.Mode.{Mode}
@@ -9,7 +9,7 @@ use Rattle.gpu_snapshot.specs.PlayAny.{script_file, played_file, any_ending_unde
 use Rattle.gpu_snapshot.specs.declared.ending.AnyEnding.{AnyEnding}
 use Rattle.psxgpu_tool.specs.Outside.{Outside}
 
-abbrev pub first : Tale
+abbrev pub first : Replay
 first = from_state first_machine 0
 
 -- the replay of a capture

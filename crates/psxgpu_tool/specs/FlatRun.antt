@@ -26,7 +26,7 @@ pub record FlatWhole (bytes : List ℕ) (before now : Outside) : Type 0 where
   pub left : now.source.left ≡ Some (play_of bytes).rest
   pub held : now.out.held ≡ appended before.out.held (flat_of (capture bytes))
   pub fits : length (flat_of (capture bytes)) ≤ limit
-  pub is_flat : IsFlatCapture first (play_of bytes).tale (flat_version (capture bytes).version)
+  pub is_flat : IsFlatCapture first (play_of bytes).replay (flat_version (capture bytes).version)
       (flat_replay (raised first (capture bytes).version) (capture bytes).events) (flat_of (capture bytes))
 
 -- the status given the capture alone: refused if its flat capture would be too long, else that of playing it

@@ -29,8 +29,8 @@ unfoldable pub event_line : (name : List ℕ) → (event : ℕ) → List ℕ
 event_line name event = codes "psxgpu: " ++ (name ++ (codes " at event " ++ (decimal event ++ codes "\n")))
 
 -- psxgpu: NAME at event N byte B
-unfoldable pub place_line : (name : List ℕ) → (event byte : ℕ) → List ℕ
-place_line name event byte =
+unfoldable pub offset_line : (name : List ℕ) → (event byte : ℕ) → List ℕ
+offset_line name event byte =
     codes "psxgpu: " ++ (name ++ (codes " at event "
     ++ (decimal event ++ (codes " byte " ++ (decimal byte ++ codes "\n")))))
 
@@ -52,11 +52,11 @@ list_loop_line event node =
 
 abbrev pub stop_line : (event : ℕ) → Stop → List ℕ
 stop_line event End = []
-stop_line event (NotCapture byte) = place_line (codes "not-capture") event byte
-stop_line event (Truncated byte) = place_line (codes "truncated") event byte
+stop_line event (NotCapture byte) = offset_line (codes "not-capture") event byte
+stop_line event (Truncated byte) = offset_line (codes "truncated") event byte
 stop_line event (BadRecord byte word) = word_line (codes "bad-record") event byte word
-stop_line event (TooLong byte) = place_line (codes "too-long") event byte
-stop_line event (ReadFault byte) = place_line (codes "read-fault") event byte
+stop_line event (TooLong byte) = offset_line (codes "too-long") event byte
+stop_line event (ReadFault byte) = offset_line (codes "read-fault") event byte
 
 abbrev pub fault_line : (event : ℕ) → EventFault → List ℕ
 fault_line event BadDma = event_line (codes "bad-dma") event

@@ -6,7 +6,7 @@ use Rattle.gpu_capture.specs.declared.event.Stop.TheVariants.{Truncated, ReadFau
 use Rattle.gpu_taps.specs.Tally.{Reading}
 use Rattle.event_play.specs.Out.{out_bytes, out_cost, out_box_cost}
 use Rattle.event_play.specs.Playing.{AreAllNeeded, LacksBytes}
-use Rattle.event_play.specs.Replay.{Tale}
+use Rattle.event_play.specs.Replay.{Replay}
 use Rattle.event_play.specs.Told.{told_notes}
 use Rattle.event_play.specs.declared.ending.Ending.TheVariants.{Done, Stopped, WriteFailed}
 use Rattle.event_play.specs.declared.ending.Mode.{Mode}
@@ -15,7 +15,7 @@ use Rattle.gpu_snapshot.specs.Opening.{opening_cost}
 use Rattle.gpu_snapshot.specs.declared.ending.AnyEnding.TheVariants.{Played}
 use Rattle.psxgpu_tool.specs.Line.{ending_line, any_status, any_text}
 use Rattle.psxgpu_tool.specs.Outside.{Outside, Says, HasFailed, HasFailedToRead}
-use Rattle.event_play.specs.Course.{course, tales}
+use Rattle.event_play.specs.PlayInput.{play_input, replay_pair}
 
 -- status 0: the capture is complete, or the records after the state of the snapshot are; if a picture is written, there
 -- is one; the bytes after the End remain, and the whole output was written
@@ -44,7 +44,7 @@ pub record RefusedRun (mode : Mode) (heard : List Reading) (bytes : List ℕ) (b
   pub held : now.out.held ≡ appended before.out.held (out_bytes mode heard (play_file bytes))
   pub decided : Decided mode bytes now
   pub says : Says before.err now.err (any_text (file_ending mode bytes)
-      (told_notes (play_file bytes).tale.notes heard))
+      (told_notes (play_file bytes).replay.notes heard))
 
 abbrev pub Refused : Mode → List Reading → (before now : Outside) → Type 0
 Refused mode heard before now = IfSome before.source.left (λ bytes. RefusedRun mode heard bytes before now)
@@ -75,9 +75,10 @@ pub record BlockedRun (mode : Mode) (heard : List Reading) (bytes : List ℕ) (b
   pub all : bytes ≡ taken ++ rest
   pub left : now.source.left ≡ Some rest
   pub event : ℕ
-  pub tale : Tale
-  pub last : Tale
-  pub lacks : LacksBytes (course mode file_script taken) (tales tale last) event (seen heard before) (seen heard now)
+  pub replay : Replay
+  pub last : Replay
+  pub lacks : LacksBytes (play_input mode file_script taken) (replay_pair replay last) event (seen heard before)
+      (seen heard now)
   pub says : Says before.err now.err (ending_line (WriteFailed event))
 
 abbrev pub Blocked : Mode → List Reading → (before now : Outside) → Type 0

@@ -29,7 +29,7 @@ pub record SlimWhole (bytes : List ℕ) (before now : Outside) : Type 0 where
   pub left : now.source.left ≡ Some (capture bytes).rest
   pub held : now.out.held ≡ appended before.out.held (slim_of (capture bytes))
   pub fits : length (slim_of (capture bytes)) ≤ limit
-  pub is_slim : IsFlatCapture first (play_of bytes).tale (capture bytes).version
+  pub is_slim : IsFlatCapture first (play_of bytes).replay (capture bytes).version
       (slim_events (height_for (capture bytes).version) (capture bytes).events) (slim_of (capture bytes))
 
 -- the exit status of a capture with this ending

@@ -4,7 +4,7 @@ use Rattle.dev_io.specs.Device.{appended, AppendsPart}
 use Rattle.gpu_taps.specs.Tally.{Reading}
 use Rattle.event_play.specs.Replay.{next_number}
 use Rattle.event_play.specs.declared.ending.Ending.TheVariants.{WriteFailed}
-use Rattle.psxgpu_tool.specs.DemoOut.{demo_tale, demo_out, demo_cost, demo_box_cost}
+use Rattle.psxgpu_tool.specs.DemoOut.{demo_replay, demo_out, demo_cost, demo_box_cost}
 use Rattle.psxgpu_tool.specs.Line.{ending_line}
 use Rattle.psxgpu_tool.specs.Outside.{Outside, Says, HasFailed}
 
@@ -21,7 +21,7 @@ Tells bytes event before now status =
 
 -- a demo: its output follows its last event
 pub record DemoRun (packets : ℕ) (heard : List Reading) (before now : Outside) (status : ℕ) : Type 0 where
-  pub tells : (status ≡ 5) ⊎ Tells (demo_out packets heard) (next_number (demo_tale packets).played) before now status
+  pub tells : (status ≡ 5) ⊎ Tells (demo_out packets heard) (next_number (demo_replay packets).played) before now status
   pub unread : Unread before now
   pub cost : now.steps ≤ before.steps + demo_cost packets
   pub box_cost : now.steps ≤ before.steps + demo_box_cost packets

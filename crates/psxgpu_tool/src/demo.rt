@@ -1,7 +1,7 @@
 // Plays generated packets and writes what they did.
 ghost use Rattle.std.specs.Prelude.{◌≡◌, ◌≤◌, ◌<◌, ◌+◌, ◌++◌, [], ◌∷◌, ℕ, List, map};
 ghost use Rattle.dev_io.specs.Device.{Writes, side};
-ghost use Rattle.event_play.specs.Replay.{Tale, next_number};
+ghost use Rattle.event_play.specs.Replay.{Replay, next_number};
 ghost use Rattle.event_play.specs.Streams.{Outlets, without_sink};
 ghost use Rattle.gpu_core.specs.Kept.{kept_of};
 ghost use Rattle.gpu_core.specs.Machine.{State};
@@ -31,7 +31,7 @@ pub fn play_demo<T: Listener, L: Ledger>(
     taps: &mut Vec<T>,
     steps: &mut Steps<L>,
 )
-    ensures { (first : Tale) (start : Outlets)
+    ensures { (first : Replay) (start : Outlets)
         → HavePlayed first [] start (without_sink (map T.heard taps.old.items) steps.old) rig.old
         → HavePlayed first (demo_words packets) start (without_sink (map T.heard taps.new.items) steps.new) rig.new }
 {
@@ -86,7 +86,7 @@ fn play_words<T: Listener, L: Ledger>(
     taps: &mut Vec<T>,
     steps: &mut Steps<L>,
 )
-    ensures { (first : Tale) (done : List ℕ) (start : Outlets)
+    ensures { (first : Replay) (done : List ℕ) (start : Outlets)
         → HavePlayed first done start (without_sink (map T.heard taps.old.items) steps.old) rig.old
         → HavePlayed first (done ++ words.now) start (without_sink (map T.heard taps.new.items) steps.new) rig.new }
 {
@@ -101,7 +101,7 @@ fn play_word<T: Listener, L: Ledger>(
     taps: &mut Vec<T>,
     steps: &mut Steps<L>,
 )
-    ensures { (first : Tale) (done : List ℕ) (start : Outlets)
+    ensures { (first : Replay) (done : List ℕ) (start : Outlets)
         → HavePlayed first done start (without_sink (map T.heard taps.old.items) steps.old) rig.old
         → HavePlayed first (done ++ word ∷ []) start (without_sink (map T.heard taps.new.items) steps.new) rig.new }
 {

@@ -188,7 +188,7 @@ fn truncation_hint(alloc: Global, events: u64, first: &[u8]) -> Result<String, A
 // Returns the name and the event of a refusal from its first line, `psxgpu: NAME at event N ..`.
 fn refusal_of(lines: &str) -> Option<(&str, u64)> {
     let (line, _) = lines.split_once('\n')?;
-    let (name, place) = line.strip_prefix("psxgpu: ")?.split_once(" at event ")?;
-    let event = place.split(' ').next()?;
+    let (name, rest) = line.strip_prefix("psxgpu: ")?.split_once(" at event ")?;
+    let event = rest.split(' ').next()?;
     Some((name, event.parse::<u64>().ok()?))
 }

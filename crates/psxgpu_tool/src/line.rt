@@ -1,6 +1,6 @@
 // Writes the lines of refusals.
 ghost use Rattle.dev_io.specs.Device.{Writes, side};
-ghost use Rattle.psxgpu_tool.specs.Line.{event_line, place_line, word_line, too_long_line, list_loop_line};
+ghost use Rattle.psxgpu_tool.specs.Line.{event_line, offset_line, word_line, too_long_line, list_loop_line};
 ghost use Rattle.psxgpu_tool.specs.Line.{fault_line, stop_line};
 
 use dev_io::{Failed, Sink, write_pieces};
@@ -15,11 +15,11 @@ pub(crate) fn write_stop<E: Sink>(err: &mut E, event: u64, stop: Stop) -> Result
     ensures { Writes (side E.held E.faults) err.old err.new (stop_line event stop) result }
 {
     match stop {
-        Stop::NotCapture { byte } => write_place(err, b"not-capture", event, byte),
-        Stop::Truncated { byte } => write_place(err, b"truncated", event, byte),
+        Stop::NotCapture { byte } => write_offset(err, b"not-capture", event, byte),
+        Stop::Truncated { byte } => write_offset(err, b"truncated", event, byte),
         Stop::BadRecord { byte, word } => write_word(err, b"bad-record", event, byte, word),
-        Stop::TooLong { byte } => write_place(err, b"too-long", event, byte),
-        Stop::ReadFault { byte } => write_place(err, b"read-fault", event, byte),
+        Stop::TooLong { byte } => write_offset(err, b"too-long", event, byte),
+        Stop::ReadFault { byte } => write_offset(err, b"read-fault", event, byte),
         Stop::End => Ok(()),
     }
 }
@@ -45,14 +45,14 @@ pub(crate) fn write_event<E: Sink>(err: &mut E, name: &[u8], event: u64) -> Resu
     write_pieces(err, &[b"psxgpu: ", name, b" at event ", n, b"\n"])
 }
 
-#[tactic(auto, unfolding(crate::specs::Line::place_line))]
-fn write_place<E: Sink>(err: &mut E, name: &[u8], event: u64, byte: u32) -> Result<(), Failed>
-    ensures { Writes (side E.held E.faults) err.old err.new (place_line name.now event byte) result }
+#[tactic(auto, unfolding(crate::specs::Line::offset_line))]
+fn write_offset<E: Sink>(err: &mut E, name: &[u8], event: u64, byte: u32) -> Result<(), Failed>
+    ensures { Writes (side E.held E.faults) err.old err.new (offset_line name.now event byte) result }
 {
     let mut number = Buffer::new();
     let n = decimal_text(&mut number, event);
-    let mut place = Buffer::new();
-    let b = decimal_text(&mut place, byte as u64);
+    let mut offset = Buffer::new();
+    let b = decimal_text(&mut offset, byte as u64);
     write_pieces(
         err,
         &[b"psxgpu: ", name, b" at event ", n, b" byte ", b, b"\n"],
@@ -72,8 +72,8 @@ pub(crate) fn write_word<E: Sink>(
 {
     let mut number = Buffer::new();
     let n = decimal_text(&mut number, event);
-    let mut place = Buffer::new();
-    let b = decimal_text(&mut place, byte as u64);
+    let mut offset = Buffer::new();
+    let b = decimal_text(&mut offset, byte as u64);
     let digits = hex_digits(word);
     write_pieces(
         err,

@@ -4,13 +4,13 @@ ghost use Rattle.std.specs.Prelude.{◌≡◌, ◌↔◌, ◌≤◌, ◌<◌, �
 use itoa::Buffer;
 
 /// Returns the number below 1024 that the text spells in decimal, without sign and leading zeros.
-pub(crate) fn place_of(text: &str) -> Option<u16>
+pub(crate) fn coordinate_of(text: &str) -> Option<u16>
     ensures { MatchOption result ((n : ℕ) → n < 1024 → text.now ≡ decimal n → ⊥)
         (λ n. (n < 1024) × (text.now ≡ decimal n)) }
 {
     match text.parse::<u32>() {
         Ok(n) => {
-            if is_place(text, n) {
+            if is_coordinate(text, n) {
                 Some(n as u16)
             } else {
                 None
@@ -21,7 +21,7 @@ pub(crate) fn place_of(text: &str) -> Option<u16>
 }
 
 // Whether the text spells `n`, and `n` is below 1024.
-fn is_place(text: &str, n: u32) -> bool
+fn is_coordinate(text: &str, n: u32) -> bool
     ensures { IsTrue result ↔ ((n < 1024) × (text.now ≡ decimal n)) }
 {
     let few = n < 1024;

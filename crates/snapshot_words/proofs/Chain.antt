@@ -31,55 +31,55 @@ use Rattle.snapshot_words.proofs.Gathering.{needed_on}
 -- The words of a state so far were read. Whatever follows them, reading continues at the new offset with `next`.
 pub record Came (before now : Remainder) (got : List ℕ) (next : ℕ → List ℕ → Found Outline) : Type 0 where
   pub bytes : before.left ≡ prepended (bytes_of got) now.left
-  pub needed : AreNeeded (outline_from before.place) (bytes_of got)
-  pub moved : now.place ≡ before.place + 4 * length got
-  pub says : (rest : List ℕ) → outline_from before.place (bytes_of got ++ rest) ≡ next now.place rest
+  pub needed : AreNeeded (outline_from before.offset) (bytes_of got)
+  pub moved : now.offset ≡ before.offset + 4 * length got
+  pub says : (rest : List ℕ) → outline_from before.offset (bytes_of got ++ rest) ≡ next now.offset rest
 
 -- needed bytes were read that mean this fault of a state
 abbrev StopsAll : Remainder → Option (List ℕ) → SnapFault → Type 0
-StopsAll before now why = Stops (outline_from before.place) before.left now why
+StopsAll before now why = Stops (outline_from before.offset) before.left now why
 
 -- the same for one part
 abbrev StopsIn : Section → Remainder → Option (List ℕ) → SnapFault → Type 0
-StopsIn s before now why = Stops (section_from s [] before.place) before.left now why
+StopsIn s before now why = Stops (section_from s [] before.offset) before.left now why
 
 bytes_both : (a b : List ℕ) → bytes_of (a ++ b) ≡ bytes_of a ++ bytes_of b
 bytes_both a b = flat_map-append word_bytes a b
 
 -- the meaning of one part, and of the bytes after it
 abbrev pub part_then : Section → (List ℕ → ℕ → List ℕ → Found Outline) → ℕ → List ℕ → Found Outline
-part_then s next place bytes = found_then (section_from s [] place bytes) next
+part_then s next offset bytes = found_then (section_from s [] offset bytes) next
 
 pub short_then : {A B : Type 0} (found : Found A) (next : A → ℕ → List ℕ → Found B) → IsShort found
     → IsShort (found_then found next)
-short_then (Whole value place rest) next short = absurd short
-short_then (Short place) next short = tt
-short_then (Bad place word) next short = absurd short
+short_then (Whole value offset rest) next short = absurd short
+short_then (Short offset) next short = tt
+short_then (Bad offset word) next short = absurd short
 
 -- ---- any part
 
 module _ (s : Section) (next : List ℕ → ℕ → List ℕ → Found Outline) (before mid : Remainder) (got : List ℕ)
     (came : Came before mid got (part_then s next)) where
-  needed_behind : (taken : List ℕ) → AreNeeded (section_from s [] mid.place) taken
-      → AreNeeded (outline_from before.place) (bytes_of got ++ taken)
-  needed_behind taken needed =
-      needed_on (outline_from before.place) (bytes_of got) taken came.needed
+  needed_after : (taken : List ℕ) → AreNeeded (section_from s [] mid.offset) taken
+      → AreNeeded (outline_from before.offset) (bytes_of got ++ taken)
+  needed_after taken needed =
+      needed_on (outline_from before.offset) (bytes_of got) taken came.needed
       (λ part more is some.
-      rw (came.says part) (short_then (section_from s [] mid.place part) next (needed part more is some)))
+      rw (came.says part) (short_then (section_from s [] mid.offset part) next (needed part more is some)))
 
   pub came_on : (now : Remainder) (words : List ℕ) → Takes s mid now words → Came before now (got ++ words) (next words)
   came_on now words takes = record {
     bytes = rw (bytes_both got words)
         (taken_on before.left mid.left now.left (bytes_of got) (bytes_of words) came.bytes takes.bytes);
-    needed = rw (bytes_both got words) (needed_behind (bytes_of words) takes.needed);
+    needed = rw (bytes_both got words) (needed_after (bytes_of words) takes.needed);
     moved = let a = length-append got words in let b = came.moved in let c = takes.moved in omega (arith, a, b, c);
     says = λ rest. rw (bytes_both got words, append_assoc (bytes_of got) (bytes_of words) rest)
         (came.says (bytes_of words ++ rest) ∙ ap (λ found. found_then found next) (takes.says rest));
   }
 
   stops_says : (why : SnapFault) (taken : List ℕ) (now : Option (List ℕ))
-      → SaysFault why (section_from s [] mid.place) taken now
-      → SaysFault why (outline_from before.place) (bytes_of got ++ taken) now
+      → SaysFault why (section_from s [] mid.offset) taken now
+      → SaysFault why (outline_from before.offset) (bytes_of got ++ taken) now
   stops_says (fault.Bad byte word) taken now says =
       λ rest. rw (append_assoc (bytes_of got) taken rest)
       (came.says (taken ++ rest) ∙ ap (λ found. found_then found next) (says rest))
@@ -96,18 +96,18 @@ module _ (s : Section) (next : List ℕ → ℕ → List ℕ → Found Outline) 
   came_stops now why stops = record {
     taken = bytes_of got ++ stops.taken;
     bytes = taken_on before.left mid.left now (bytes_of got) stops.taken came.bytes stops.bytes;
-    needed = needed_behind stops.taken stops.needed;
+    needed = needed_after stops.taken stops.needed;
     says = stops_says why stops.taken now stops.says;
   }
 
 -- ---- the parts of a state
 
 -- after the front, by its words
-abbrev behind_front : List ℕ → ℕ → List ℕ → Found Outline
-behind_front words = registers_from (height_in words) (played_in words)
+abbrev following_front : List ℕ → ℕ → List ℕ → Found Outline
+following_front words = registers_from (height_in words) (played_in words)
 
 -- before it nothing was read
-none_came : (at : Remainder) → Came at at [] (part_then section.Front behind_front)
+none_came : (at : Remainder) → Came at at [] (part_then section.Front following_front)
 unfolding outline_from
 none_came at = record {
   bytes = prepended-nil at.left;
@@ -116,7 +116,7 @@ none_came at = record {
   says = λ rest. refl;
 }
   where
-    none_needed : AreNeeded (outline_from at.place) []
+    none_needed : AreNeeded (outline_from at.offset) []
     none_needed [] [] is some = absurd (some refl)
     none_needed [] (x ∷ xs) is some = absurd cc
     none_needed (x ∷ xs) more is some = absurd cc
@@ -126,13 +126,13 @@ pub came_front : (before now : Remainder) (height played : ℕ)
     → Came before now (front_words height played) (registers_from height played)
 came_front before now height played takes =
     subst (λ n. Came before now (front_words height played) (registers_from height n)) (played_back height played)
-    (came_on section.Front behind_front before before [] (none_came before) now (front_words height played) takes)
+    (came_on section.Front following_front before before [] (none_came before) now (front_words height played) takes)
 
 pub front_stops : (before : Remainder) (now : Option (List ℕ)) (why : SnapFault)
-    → Stops (section_from section.Front [] before.place) before.left now why
-    → Stops (outline_from before.place) before.left now why
+    → Stops (section_from section.Front [] before.offset) before.left now why
+    → Stops (outline_from before.offset) before.left now why
 front_stops before now why stops =
-    came_stops section.Front behind_front before before [] (none_came before) now why stops
+    came_stops section.Front following_front before before [] (none_came before) now why stops
 
 -- after the registers, by their words, and so on
 abbrev with_registers : (height played : ℕ) → List ℕ → ℕ → List ℕ → Found Outline
@@ -190,7 +190,7 @@ unfolding outline_words
 words_joined o = refl
 
 outline_came : (before now : Remainder) (got : List ℕ) (o : Outline) → got ≡ outline_words o
-    → Came before now got (Whole o) → TakesOutline before.left now.left before.place now.place o
+    → Came before now got (Whole o) → TakesOutline before.left now.left before.offset now.offset o
 outline_came before now got o is came = record {
   bytes = rw (← is) came.bytes;
   needed = rw (← is) came.needed;
@@ -261,7 +261,7 @@ module _ (before after_front : Remainder) (height played : ℕ)
             store_came now why stops
 
         pub all_came : (now : Remainder) (r : Run) → Takes section.Run after_store now (run_words r)
-            → TakesOutline before.left now.left before.place now.place (record linked { store = store; run = r })
+            → TakesOutline before.left now.left before.offset now.offset (record linked { store = store; run = r })
         all_came now r takes =
             let o : Outline = record linked { store = store; run = r } in
             outline_came before now

@@ -22,24 +22,24 @@ use Rattle.snapshot_words.specs.declared.section.Section.{Section}
 
 -- ---- the meaning of the next bytes
 
-pub whole_stays : (s : Section) (got : List ℕ) (place : ℕ) (bytes : List ℕ) → wants s got ≡ false
-    → section_from s got place bytes ≡ Whole got place bytes
-whole_stays s got place [] full = rw full refl
-whole_stays s got place (a ∷ []) full = rw full refl
-whole_stays s got place (a ∷ b ∷ []) full = rw full refl
-whole_stays s got place (a ∷ b ∷ c ∷ []) full = rw full refl
-whole_stays s got place (a ∷ b ∷ c ∷ d ∷ rest) full = rw full refl
+pub whole_stays : (s : Section) (got : List ℕ) (offset : ℕ) (bytes : List ℕ) → wants s got ≡ false
+    → section_from s got offset bytes ≡ Whole got offset bytes
+whole_stays s got offset [] full = rw full refl
+whole_stays s got offset (a ∷ []) full = rw full refl
+whole_stays s got offset (a ∷ b ∷ []) full = rw full refl
+whole_stays s got offset (a ∷ b ∷ c ∷ []) full = rw full refl
+whole_stays s got offset (a ∷ b ∷ c ∷ d ∷ rest) full = rw full refl
 
 plus_none : (n : ℕ) → n ≡ n + 0
 plus_none n = omega arith
 
-pub breaks_off : (s : Section) (got : List ℕ) (place : ℕ) (bytes : List ℕ) → wants s got ≡ true → length bytes < 4
-    → section_from s got place bytes ≡ Short (place + length bytes)
-breaks_off s got place [] due few = rw due (ap Short (plus_none place))
-breaks_off s got place (a ∷ []) due few = rw due refl
-breaks_off s got place (a ∷ b ∷ []) due few = rw due refl
-breaks_off s got place (a ∷ b ∷ c ∷ []) due few = rw due refl
-breaks_off s got place (a ∷ b ∷ c ∷ d ∷ rest) due few = absurd (omega arith)
+pub breaks_off : (s : Section) (got : List ℕ) (offset : ℕ) (bytes : List ℕ) → wants s got ≡ true → length bytes < 4
+    → section_from s got offset bytes ≡ Short (offset + length bytes)
+breaks_off s got offset [] due few = rw due (ap Short (plus_none offset))
+breaks_off s got offset (a ∷ []) due few = rw due refl
+breaks_off s got offset (a ∷ b ∷ []) due few = rw due refl
+breaks_off s got offset (a ∷ b ∷ c ∷ []) due few = rw due refl
+breaks_off s got offset (a ∷ b ∷ c ∷ d ∷ rest) due few = absurd (omega arith)
 
 -- ---- words and their bytes
 
@@ -55,13 +55,13 @@ number_of_bytes a b c d p q r t =
     rw (first, second, third, fourth) refl
 
 -- the four bytes of a word, and their meaning
-pub word_split : (s : Section) (got : List ℕ) (place word : ℕ) (rest : List ℕ) → wants s got ≡ true → word < 2 ^ 32
-    → section_from s got place (word_bytes word ++ rest)
-    ≡ (if allows s got word then section_from s (got ++ word ∷ []) (place + 4) rest else Bad place word)
+pub word_split : (s : Section) (got : List ℕ) (offset word : ℕ) (rest : List ℕ) → wants s got ≡ true → word < 2 ^ 32
+    → section_from s got offset (word_bytes word ++ rest)
+    ≡ (if allows s got word then section_from s (got ++ word ∷ []) (offset + 4) rest else Bad offset word)
 unfolding word_bytes
-word_split s got place word rest due fits =
+word_split s got offset word rest due fits =
     let back : little_number 4 (little_bytes 4 word ++ []) ≡ word = little_number-reads_back 4 word [] fits in
-    rw due (ap (λ w. if allows s got w then section_from s (got ++ w ∷ []) (place + 4) rest else Bad place w) back)
+    rw due (ap (λ w. if allows s got w then section_from s (got ++ w ∷ []) (offset + 4) rest else Bad offset w) back)
 
 pub bytes_on : (got : List ℕ) (word : ℕ) → bytes_of (got ++ word ∷ []) ≡ bytes_of got ++ word_bytes word
 bytes_on [] word = append-nil (word_bytes word)
@@ -69,16 +69,16 @@ bytes_on (w ∷ got) word =
     ap (λ bytes. word_bytes w ++ bytes) (bytes_on got word)
     ∙ sym (append_assoc (word_bytes w) (bytes_of got) (word_bytes word))
 
-pub next_word : (s : Section) (got : List ℕ) (place word : ℕ) (rest : List ℕ) → wants s got ≡ true
+pub next_word : (s : Section) (got : List ℕ) (offset word : ℕ) (rest : List ℕ) → wants s got ≡ true
     → allows s got word ≡ true
     → word < 2 ^ 32
-    → section_from s got place (word_bytes word ++ rest) ≡ section_from s (got ++ word ∷ []) (place + 4) rest
-next_word s got place word rest due may fits = word_split s got place word rest due fits ∙ (rw may refl)
+    → section_from s got offset (word_bytes word ++ rest) ≡ section_from s (got ++ word ∷ []) (offset + 4) rest
+next_word s got offset word rest due may fits = word_split s got offset word rest due fits ∙ (rw may refl)
 
-pub bad_word : (s : Section) (got : List ℕ) (place word : ℕ) (rest : List ℕ) → wants s got ≡ true
+pub bad_word : (s : Section) (got : List ℕ) (offset word : ℕ) (rest : List ℕ) → wants s got ≡ true
     → allows s got word ≡ false
-    → word < 2 ^ 32 → section_from s got place (word_bytes word ++ rest) ≡ Bad place word
-bad_word s got place word rest due may fits = word_split s got place word rest due fits ∙ (rw may refl)
+    → word < 2 ^ 32 → section_from s got offset (word_bytes word ++ rest) ≡ Bad offset word
+bad_word s got offset word rest due may fits = word_split s got offset word rest due fits ∙ (rw may refl)
 
 -- ---- needed bytes
 
@@ -93,7 +93,7 @@ pub needed_on : {A : Type 0} (found : List ℕ → Found A) (xs ys : List ℕ) �
     → AreNeeded (λ part. found (xs ++ part)) ys → AreNeeded found (xs ++ ys)
 needed_on found xs ys first next part more is some =
     elim (split xs ys part more is) [
-      | inl behind ↦ rw behind.1 (next behind.0 more behind.2 some)
+      | inl after ↦ rw after.1 (next after.0 more after.2 some)
       | inr inside ↦ first part inside.0 inside.1 inside.2
     ]
 
@@ -101,15 +101,15 @@ word_long : (word : ℕ) → length (word_bytes word) ≤ 4
 unfolding word_bytes
 word_long word = omega arith
 
-few_of_word : (why : SnapFault) (place : ℕ) (taken : List ℕ) (now : Option (List ℕ)) → SaysNoWord why place taken now
+few_of_word : (why : SnapFault) (offset : ℕ) (taken : List ℕ) (now : Option (List ℕ)) → SaysNoWord why offset taken now
     → length taken ≤ 4
-few_of_word (fault.Stop (Truncated byte)) place taken now says = omega (arith, says.0)
-few_of_word (fault.Stop (ReadFault byte)) place taken now says = omega (arith, says.0)
-few_of_word (fault.Stop End) place taken now says = absurd says
-few_of_word (fault.Stop (NotCapture byte)) place taken now says = absurd says
-few_of_word (fault.Stop (BadRecord byte word)) place taken now says = absurd says
-few_of_word (fault.Stop (TooLong byte)) place taken now says = absurd says
-few_of_word (fault.Bad byte word) place taken now says = absurd says
+few_of_word (fault.Stop (Truncated byte)) offset taken now says = omega (arith, says.0)
+few_of_word (fault.Stop (ReadFault byte)) offset taken now says = omega (arith, says.0)
+few_of_word (fault.Stop End) offset taken now says = absurd says
+few_of_word (fault.Stop (NotCapture byte)) offset taken now says = absurd says
+few_of_word (fault.Stop (BadRecord byte word)) offset taken now says = absurd says
+few_of_word (fault.Stop (TooLong byte)) offset taken now says = absurd says
+few_of_word (fault.Bad byte word) offset taken now says = absurd says
 
 -- ---- from word to word
 
@@ -123,39 +123,39 @@ goes_start s at = record {
 module _ (s : Section) (before mid : Remainder) (now : Option (List ℕ)) (got : List ℕ)
     (goes : Goes s before mid got) where
   short_says : (taken : List ℕ) → wants s got ≡ true → length taken < 4
-      → section_from s [] before.place ((bytes_of got) ++ taken) ≡ Short (mid.place + length taken)
-  short_says taken due few = goes.says taken ∙ breaks_off s got mid.place taken due few
+      → section_from s [] before.offset ((bytes_of got) ++ taken) ≡ Short (mid.offset + length taken)
+  short_says taken due few = goes.says taken ∙ breaks_off s got mid.offset taken due few
 
   -- at most the bytes of the next word are needed
   needed_next : (taken : List ℕ) → wants s got ≡ true → length taken ≤ 4
-      → AreNeeded (section_from s [] before.place) (bytes_of got ++ taken)
+      → AreNeeded (section_from s [] before.offset) (bytes_of got ++ taken)
   needed_next taken due few =
-      needed_on (section_from s [] before.place) (bytes_of got) taken goes.needed
+      needed_on (section_from s [] before.offset) (bytes_of got) taken goes.needed
       (λ part more is some.
       let short = part_shorter taken part more is some in rw (short_says part due (omega (arith, short, few))) tt)
 
   pub goes_on : (word : ℕ) → IsWord mid.left now word → wants s got ≡ true → allows s got word ≡ true
-      → Goes s before (remainder (mid.place + 4) now) (got ++ word ∷ [])
+      → Goes s before (remainder (mid.offset + 4) now) (got ++ word ∷ [])
   goes_on word took due may = record {
     bytes = rw (bytes_on got word)
         (taken_on before.left mid.left now (bytes_of got) (word_bytes word) goes.bytes took.bytes);
     needed = rw (bytes_on got word) (needed_next (word_bytes word) due (word_long word));
     says = λ rest. rw (bytes_on got word, append_assoc (bytes_of got) (word_bytes word) rest)
-        (goes.says (word_bytes word ++ rest) ∙ next_word s got mid.place word rest due may took.fits);
+        (goes.says (word_bytes word ++ rest) ∙ next_word s got mid.offset word rest due may took.fits);
   }
 
   pub bad_stops : (word : ℕ) → IsWord mid.left now word → wants s got ≡ true → allows s got word ≡ false
-      → Stops (section_from s [] before.place) before.left now (fault.Bad mid.place word)
+      → Stops (section_from s [] before.offset) before.left now (fault.Bad mid.offset word)
   bad_stops word took due may = record {
     taken = bytes_of got ++ word_bytes word;
     bytes = taken_on before.left mid.left now (bytes_of got) (word_bytes word) goes.bytes took.bytes;
     needed = needed_next (word_bytes word) due (word_long word);
     says = λ rest. rw (append_assoc (bytes_of got) (word_bytes word) rest)
-        (goes.says (word_bytes word ++ rest) ∙ bad_word s got mid.place word rest due may took.fits);
+        (goes.says (word_bytes word ++ rest) ∙ bad_word s got mid.offset word rest due may took.fits);
   }
 
-  fault_says : (why : SnapFault) (taken : List ℕ) → wants s got ≡ true → SaysNoWord why mid.place taken now
-      → SaysFault why (section_from s [] before.place) ((bytes_of got) ++ taken) now
+  fault_says : (why : SnapFault) (taken : List ℕ) → wants s got ≡ true → SaysNoWord why mid.offset taken now
+      → SaysFault why (section_from s [] before.offset) ((bytes_of got) ++ taken) now
   fault_says (fault.Stop (Truncated byte)) taken due says = (rw says.1 (short_says taken due says.0), says.2)
   fault_says (fault.Stop (ReadFault byte)) taken due says = rw says.1 (short_says taken due says.0)
   fault_says (fault.Stop End) taken due says = absurd says
@@ -164,23 +164,23 @@ module _ (s : Section) (before mid : Remainder) (now : Option (List ℕ)) (got :
   fault_says (fault.Stop (TooLong byte)) taken due says = absurd says
   fault_says (fault.Bad byte word) taken due says = absurd says
 
-  pub no_word_stops : (why : SnapFault) → EndsWord mid.left now mid.place why → wants s got ≡ true
-      → Stops (section_from s [] before.place) before.left now why
+  pub no_word_stops : (why : SnapFault) → EndsWord mid.left now mid.offset why → wants s got ≡ true
+      → Stops (section_from s [] before.offset) before.left now why
   no_word_stops why lack due = record {
     taken = (bytes_of got) ++ lack.taken;
     bytes = taken_on before.left mid.left now (bytes_of got) lack.taken goes.bytes lack.bytes;
-    needed = needed_next lack.taken due (few_of_word why mid.place lack.taken now lack.says);
+    needed = needed_next lack.taken due (few_of_word why mid.offset lack.taken now lack.says);
     says = fault_says why lack.taken due lack.says;
   }
 
 pub goes_whole : (s : Section) (before now : Remainder) (got : List ℕ)
-    → Goes s before now got → now.place ≡ before.place + 4 * length got → wants s got ≡ false
+    → Goes s before now got → now.offset ≡ before.offset + 4 * length got → wants s got ≡ false
     → Takes s before now got
 goes_whole s before now got goes moved full = record {
   bytes = goes.bytes;
   needed = goes.needed;
   moved = moved;
-  says = λ rest. goes.says rest ∙ whole_stays s got now.place rest full;
+  says = λ rest. goes.says rest ∙ whole_stays s got now.offset rest full;
 }
 
 -- ---- every word was needed and is allowed

@@ -28,9 +28,9 @@ last_part k n w got word may =
     let lt = ltb-true _ _ short in
     omega (arith, lt)
 
-pub allows_behind : (height k n : ℕ) (got : List ℕ) (word : ℕ) → k ≡ 1
+pub allows_after : (height k n : ℕ) (got : List ℕ) (word : ℕ) → k ≡ 1
     → allows (section.Pending height) (k ∷ n ∷ got) word ≡ allows_packet (k ∷ n ∷ got) word
-allows_behind height k n got word is =
+allows_after height k n got word is =
     let none : (length (k ∷ n ∷ got) == 0) ≡ false = ne_eqb (length (k ∷ n ∷ got)) 0 (λ e. absurd (omega (arith, e))) in
     let first : (k == 1) ≡ true = eq-eqb k 1 is in
     rw (none, first) refl
@@ -41,13 +41,13 @@ module _ (height : ℕ) where
       → n < first_len_of w
   part_is k n w [] is kind count =
       let may : nat_lt 1 (first_len_of w) ≡ true =
-      sym (allows_behind height k n [] w kind) ∙ is.allowed.each 2 (omega arith) in
+      sym (allows_after height k n [] w kind) ∙ is.allowed.each 2 (omega arith) in
       let lt = ltb-true 1 (first_len_of w) may in
       omega (arith, lt, count)
   part_is k n w (v ∷ vs) is kind count =
       let i = suc (suc (suc (length vs))) in
       let long = length-take-le (length vs) (v ∷ vs) (omega arith) in
-      let may = sym (allows_behind height k n (w ∷ take (length vs) (v ∷ vs)) (slice_index (k ∷ n ∷ w ∷ v ∷ vs) i) kind)
+      let may = sym (allows_after height k n (w ∷ take (length vs) (v ∷ vs)) (slice_index (k ∷ n ∷ w ∷ v ∷ vs) i) kind)
       ∙ is.allowed.each i (omega arith) in
       let lt = last_part k n w (take (length vs) (v ∷ vs)) (slice_index (k ∷ n ∷ w ∷ v ∷ vs) i) may in
       omega (arith, lt, count, long)

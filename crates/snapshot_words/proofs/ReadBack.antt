@@ -8,13 +8,13 @@ use Rattle.snapshot_words.specs.declared.section.Section.{Section}
 use Rattle.snapshot_words.proofs.Gathering.{goes_start, goes_on, goes_whole, minus_self}
 
 -- the words of a whole part that are left, from a source whose bytes contracts do not know
-takes_on : (s : Section) (all : List ℕ) (first : ℕ) → IsWhole s all → (got more : List ℕ) (place : ℕ)
-    → got ++ more ≡ all → place ≡ first + 4 * length got → Goes s (remainder first None) (remainder place None) got
+takes_on : (s : Section) (all : List ℕ) (first : ℕ) → IsWhole s all → (got more : List ℕ) (offset : ℕ)
+    → got ++ more ≡ all → offset ≡ first + 4 * length got → Goes s (remainder first None) (remainder offset None) got
     → Takes s (remainder first None) (remainder (first + 4 * length all) None) all
-takes_on s all first is got [] place e moved goes =
+takes_on s all first is got [] offset e moved goes =
     let same : got ≡ all = sym (append-nil got) ∙ e in
-    rw (← same, ← moved) (goes_whole s (remainder first None) (remainder place None) got goes moved (rw same is.whole))
-takes_on s all first is got (w ∷ more) place e moved goes =
+    rw (← same, ← moved) (goes_whole s (remainder first None) (remainder offset None) got goes moved (rw same is.whole))
+takes_on s all first is got (w ∷ more) offset e moved goes =
     let within : length got < length all = rw (← e) (let n = length-append got (w ∷ more) in omega (arith, n)) in
     let front : take (length got) all ≡ got =
     rw (← e) (take-append-le (length got) got (w ∷ more) (omega arith) ∙ take_all (length got) got (omega arith)) in
@@ -27,9 +27,9 @@ takes_on s all first is got (w ∷ more) place e moved goes =
     ≡ true) front (is.allowed.each (length got) within)) in
     let fits : w < 2 ^ 32 = subst (λ v. v < 2 ^ 32) next (is.allowed.fits (length got) within) in
     let longer = length_push got w in
-    takes_on s all first is (got ++ w ∷ []) more (place + 4) (append_assoc got (w ∷ []) more ∙ e)
+    takes_on s all first is (got ++ w ∷ []) more (offset + 4) (append_assoc got (w ∷ []) more ∙ e)
     (omega (arith, longer, moved))
-    (goes_on s (remainder first None) (remainder place None) None got goes w (record { bytes = refl; fits = fits }) due
+    (goes_on s (remainder first None) (remainder offset None) None got goes w (record { bytes = refl; fits = fits }) due
     may)
 
 pub whole_takes : (s : Section) (words : List ℕ) (first : ℕ) → IsWhole s words

@@ -26,9 +26,9 @@ words_back (w ∷ words) are =
     let back : little_number 4 (little_bytes 4 w ++ []) ≡ w = little_number-reads_back 4 w [] are.0 in
     ap (λ x. x ∷ words_in (bytes_of words)) back ∙ ap (λ l. w ∷ l) (words_back words are.1)
 
-pub memory_read : (count place : ℕ) (words rest : List ℕ) → AreWords words → length words ≡ count
-    → memory_from count place (bytes_of words ++ rest) ≡ Whole words (place + 4 * count) rest
-memory_read count place words rest are is =
+pub memory_read : (count offset : ℕ) (words rest : List ℕ) → AreWords words → length words ≡ count
+    → memory_from count offset (bytes_of words ++ rest) ≡ Whole words (offset + 4 * count) rest
+memory_read count offset words rest are is =
     let long = words_length words in
     let all = length-append (bytes_of words) rest in
     let enough : nat_lt (length (bytes_of words ++ rest)) (4 * count) ≡ false =
@@ -36,10 +36,10 @@ memory_read count place words rest are is =
     let front : take (4 * count) (bytes_of words ++ rest) ≡ bytes_of words =
     take-append-le (4 * count) (bytes_of words) rest (omega (arith, long, is))
     ∙ take_all (4 * count) (bytes_of words) (omega (arith, long, is)) in
-    let behind : drop (4 * count) (bytes_of words ++ rest) ≡ rest =
+    let after : drop (4 * count) (bytes_of words ++ rest) ≡ rest =
     drop-append-le (4 * count) (bytes_of words) rest (omega (arith, long, is))
     ∙ ap (λ l. l ++ rest) (drop_all (4 * count) (bytes_of words) (omega (arith, long, is))) in
-    rw (enough, front, behind, words_back words are) refl
+    rw (enough, front, after, words_back words are) refl
 
 -- ---- cells
 
@@ -76,36 +76,38 @@ snap_is : (o : Outline) (m ram : List ℕ)
 unfolding snap_bytes
 snap_is o m ram = refl
 
-state_is : (place : ℕ) (bytes : List ℕ) → state_from place bytes ≡ found_then (outline_from place bytes) memories_from
+state_is : (offset : ℕ) (bytes : List ℕ)
+    → state_from offset bytes ≡ found_then (outline_from offset bytes) memories_from
 unfolding state_from
-state_is place bytes = refl
+state_is offset bytes = refl
 
 -- after the cells
 with_ram : (o : Outline) (cells : List ℕ) → ℕ → List ℕ → Found Snapshot
-with_ram o cells place rest =
-    found_then (memory_from ram_words place rest) (λ ram. Whole (record { outline = o; m = cells_in cells; ram = ram }))
+with_ram o cells offset rest =
+    found_then (memory_from ram_words offset rest)
+    (λ ram. Whole (record { outline = o; m = cells_in cells; ram = ram }))
 
-memories_read : (o : Outline) (m ram : List ℕ) (place : ℕ) (rest : List ℕ) → AreMemories o m ram
-    → memories_from o place (bytes_of (cell_words m) ++ (bytes_of ram ++ rest))
-    ≡ Whole (record { outline = o; m = m; ram = ram }) (place + 4 * (512 * o.regs.height) + 4 * ram_words) rest
+memories_read : (o : Outline) (m ram : List ℕ) (offset : ℕ) (rest : List ℕ) → AreMemories o m ram
+    → memories_from o offset (bytes_of (cell_words m) ++ (bytes_of ram ++ rest))
+    ≡ Whole (record { outline = o; m = m; ram = ram }) (offset + 4 * (512 * o.regs.height) + 4 * ram_words) rest
 unfolding with_ram
-memories_read o m ram place rest are =
+memories_read o m ram offset rest are =
     let cells = are.cells in
     let even : length m % 2 ≡ 0 = omega (arith, cells) in
     let half = cells_length m even in
     let count : length (cell_words m) ≡ 512 * o.regs.height = omega (arith, half, cells) in
     ap (λ found. found_then found (with_ram o))
-    (memory_read (512 * o.regs.height) place (cell_words m) (bytes_of ram ++ rest) (cells_fit m are.each) count)
+    (memory_read (512 * o.regs.height) offset (cell_words m) (bytes_of ram ++ rest) (cells_fit m are.each) count)
     ∙ ap (λ found. found_then found (λ ram. Whole (record { outline = o; m = cells_in (cell_words m); ram = ram })))
-    (memory_read ram_words (place + 4 * (512 * o.regs.height)) ram rest are.words (are.long ∙ sym ram_count))
-    ∙ ap (λ (cells : List ℕ). Whole (record { outline = o; m = cells; ram = ram }) (place + 4 *
+    (memory_read ram_words (offset + 4 * (512 * o.regs.height)) ram rest are.words (are.long ∙ sym ram_count))
+    ∙ ap (λ (cells : List ℕ). Whole (record { outline = o; m = cells; ram = ram }) (offset + 4 *
     (512 * o.regs.height) + 4 * ram_words) rest)
     (cells_back m are.each even)
 
-pub state_read : (o : Outline) (m ram : List ℕ) (place : ℕ) (rest : List ℕ) → IsOutline o → AreWords (outline_words o)
-    → AreMemories o m ram → state_from place (snap_bytes o m ram ++ rest)
-    ≡ Whole (record { outline = o; m = m; ram = ram }) (place + length (snap_bytes o m ram)) rest
-state_read o m ram place rest is fit are =
+pub state_read : (o : Outline) (m ram : List ℕ) (offset : ℕ) (rest : List ℕ) → IsOutline o → AreWords (outline_words o)
+    → AreMemories o m ram → state_from offset (snap_bytes o m ram ++ rest)
+    ≡ Whole (record { outline = o; m = m; ram = ram }) (offset + length (snap_bytes o m ram)) rest
+state_read o m ram offset rest is fit are =
     let head = bytes_of (outline_words o) in
     let cells = bytes_of (cell_words m) in
     let grouped : snap_bytes o m ram ++ rest ≡ head ++ (cells ++ (bytes_of ram ++ rest)) =
@@ -120,10 +122,10 @@ state_read o m ram place rest is fit are =
     let inner = length-append head cells in
     let outer = length-append (head ++ cells) (bytes_of ram) in
     let whole = ap length (snap_is o m ram) in
-    let end : place + 4 * length (outline_words o) + 4 * (512 * o.regs.height) + 4 * ram_words ≡ place + length
+    let end : offset + 4 * length (outline_words o) + 4 * (512 * o.regs.height) + 4 * ram_words ≡ offset + length
     (snap_bytes o m ram) =
     omega (arith, half, count_m, ram_long, a, b, c, inner, outer, whole) in
-    ap (state_from place) grouped ∙ state_is place (head ++ (cells ++ (bytes_of ram ++ rest)))
-    ∙ ap (λ found. found_then found memories_from) (outline_read o place (cells ++ (bytes_of ram ++ rest)) is fit)
-    ∙ memories_read o m ram (place + 4 * length (outline_words o)) rest are
-    ∙ ap (λ place. Whole (record { outline = o; m = m; ram = ram }) place rest) end
+    ap (state_from offset) grouped ∙ state_is offset (head ++ (cells ++ (bytes_of ram ++ rest)))
+    ∙ ap (λ found. found_then found memories_from) (outline_read o offset (cells ++ (bytes_of ram ++ rest)) is fit)
+    ∙ memories_read o m ram (offset + 4 * length (outline_words o)) rest are
+    ∙ ap (λ offset. Whole (record { outline = o; m = m; ram = ram }) offset rest) end

@@ -26,51 +26,51 @@ use Rattle.snapshot_words.proofs.Shapes.{front_is, registers_are, store_is}
 -- ---- the meaning of bytes
 
 abbrev value_or : {A : Type 0} → A → Found A → A
-value_or a (Whole value place rest) = value
-value_or a (Short place) = a
-value_or a (Bad place word) = a
+value_or a (Whole value offset rest) = value
+value_or a (Short offset) = a
+value_or a (Bad offset word) = a
 
-abbrev place_or : {A : Type 0} → Found A → ℕ
-place_or (Whole value place rest) = place
-place_or (Short place) = 0
-place_or (Bad place word) = 0
+abbrev offset_or : {A : Type 0} → Found A → ℕ
+offset_or (Whole value offset rest) = offset
+offset_or (Short offset) = 0
+offset_or (Bad offset word) = 0
 
 abbrev rest_or : {A : Type 0} → Found A → List ℕ
-rest_or (Whole value place rest) = rest
-rest_or (Short place) = []
-rest_or (Bad place word) = []
+rest_or (Whole value offset rest) = rest
+rest_or (Short offset) = []
+rest_or (Bad offset word) = []
 
 -- `found` is a whole value, and `all` is the meaning of the bytes after it
-record Behind {A B : Type 0} (found : Found A) (next : A → ℕ → List ℕ → Found B) (all : Found B) : Type 0 where
+record After {A B : Type 0} (found : Found A) (next : A → ℕ → List ℕ → Found B) (all : Found B) : Type 0 where
   value : A
-  place : ℕ
+  offset : ℕ
   rest : List ℕ
-  was : found ≡ Whole value place rest
-  behind : next value place rest ≡ all
+  was : found ≡ Whole value offset rest
+  after : next value offset rest ≡ all
 
-then_from : {A B : Type 0} (found : Found A) (next : A → ℕ → List ℕ → Found B) (b : B) (place : ℕ) (rest : List ℕ)
-    → found_then found next ≡ Whole b place rest → Behind found next (Whole b place rest)
-then_from (Whole value at left) next b place rest e =
-    record { value = value; place = at; rest = left; was = refl; behind = e }
-then_from (Short at) next b place rest e = absurd cc
-then_from (Bad at word) next b place rest e = absurd cc
+then_from : {A B : Type 0} (found : Found A) (next : A → ℕ → List ℕ → Found B) (b : B) (offset : ℕ) (rest : List ℕ)
+    → found_then found next ≡ Whole b offset rest → After found next (Whole b offset rest)
+then_from (Whole value at left) next b offset rest e =
+    record { value = value; offset = at; rest = left; was = refl; after = e }
+then_from (Short at) next b offset rest e = absurd cc
+then_from (Bad at word) next b offset rest e = absurd cc
 
 -- ---- one part
 
-record ReadFrom (s : Section) (got words : List ℕ) (first place : ℕ) (bytes rest : List ℕ) : Type 0 where
+record ReadFrom (s : Section) (got words : List ℕ) (first offset : ℕ) (bytes rest : List ℕ) : Type 0 where
   more : List ℕ
   joined : words ≡ got ++ more
   spelled : bytes ≡ bytes_of more ++ rest
-  moved : place ≡ first + 4 * length more
+  moved : offset ≡ first + 4 * length more
   whole : IsWhole s words
 
-full_from : (s : Section) (got words : List ℕ) (first place : ℕ) (bytes rest : List ℕ) → AreAllowed s got
+full_from : (s : Section) (got words : List ℕ) (first offset : ℕ) (bytes rest : List ℕ) → AreAllowed s got
     → wants s got ≡ false
-    → section_from s got first bytes ≡ Whole words place rest → ReadFrom s got words first place bytes rest
-full_from s got words first place bytes rest allowed full e =
-    let same : Whole got first bytes ≡ Whole words place rest = sym (whole_stays s got first bytes full) ∙ e in
+    → section_from s got first bytes ≡ Whole words offset rest → ReadFrom s got words first offset bytes rest
+full_from s got words first offset bytes rest allowed full e =
+    let same : Whole got first bytes ≡ Whole words offset rest = sym (whole_stays s got first bytes full) ∙ e in
     let value : got ≡ words = ap (value_or got) same in
-    let at : first ≡ place = ap place_or same in
+    let at : first ≡ offset = ap offset_or same in
     let left : bytes ≡ rest = ap rest_or same in
     record {
       more = [];
@@ -80,18 +80,18 @@ full_from s got words first place bytes rest allowed full e =
       whole = subst (IsWhole s) value (record { allowed = allowed; whole = full });
     }
 
-module _ (s : Section) (words : List ℕ) (place : ℕ) (rest : List ℕ) where
+module _ (s : Section) (words : List ℕ) (offset : ℕ) (rest : List ℕ) where
   short_from : (got : List ℕ) (first : ℕ) (bytes : List ℕ) → length bytes < 4 → AreAllowed s got
-      → section_from s got first bytes ≡ Whole words place rest → ReadFrom s got words first place bytes rest
+      → section_from s got first bytes ≡ Whole words offset rest → ReadFrom s got words first offset bytes rest
   short_from got first bytes few allowed e =
       elim (cases_Bool (wants s got)) [
         | inl due ↦ absurd (let f = sym (breaks_off s got first bytes due few) ∙ e in cc)
-        | inr full ↦ full_from s got words first place bytes rest allowed full e
+        | inr full ↦ full_from s got words first offset bytes rest allowed full e
       ]
 
   -- after one more word
   on_from : (got : List ℕ) (word first : ℕ) (bytes left : List ℕ) → bytes ≡ word_bytes word ++ left
-      → ReadFrom s (got ++ word ∷ []) words (first + 4) place left rest → ReadFrom s got words first place bytes rest
+      → ReadFrom s (got ++ word ∷ []) words (first + 4) offset left rest → ReadFrom s got words first offset bytes rest
   on_from got word first bytes left is from =
       let moved = from.moved in
       record {
@@ -104,7 +104,7 @@ module _ (s : Section) (words : List ℕ) (place : ℕ) (rest : List ℕ) where
       }
 
   part_from : (got : List ℕ) (first : ℕ) (bytes : List ℕ) → AreBytes bytes → AreAllowed s got
-      → section_from s got first bytes ≡ Whole words place rest → ReadFrom s got words first place bytes rest
+      → section_from s got first bytes ≡ Whole words offset rest → ReadFrom s got words first offset bytes rest
   part_from got first [] are allowed e = short_from got first [] (omega arith) allowed e
   part_from got first (a ∷ []) are allowed e = short_from got first (a ∷ []) (omega arith) allowed e
   part_from got first (a ∷ b ∷ []) are allowed e = short_from got first (a ∷ b ∷ []) (omega arith) allowed e
@@ -117,7 +117,7 @@ module _ (s : Section) (words : List ℕ) (place : ℕ) (rest : List ℕ) where
       let bytes : a ∷ b ∷ c ∷ d ∷ left ≡ word_bytes word ++ left = ap (λ w. w ++ left) (sym spelled) in
       let read = sym (ap (section_from s got first) bytes) ∙ e in
       elim (cases_Bool (wants s got)) [
-        | inr full ↦ full_from s got words first place (a ∷ b ∷ c ∷ d ∷ left) rest allowed full e
+        | inr full ↦ full_from s got words first offset (a ∷ b ∷ c ∷ d ∷ left) rest allowed full e
         | inl due ↦
             elim (cases_Bool (allows s got word)) [
               | inr bad ↦ absurd (let f = sym (bad_word s got first word left due bad fits) ∙ read in cc)
@@ -148,16 +148,16 @@ bytes_both a b = flat_map-append word_bytes a b
 
 -- ---- parts one after another
 
-record Read (s : Section) (words : List ℕ) (first place : ℕ) (bytes rest : List ℕ) : Type 0 where
+record Read (s : Section) (words : List ℕ) (first offset : ℕ) (bytes rest : List ℕ) : Type 0 where
   spelled : bytes ≡ bytes_of words ++ rest
-  moved : place ≡ first + 4 * length words
+  moved : offset ≡ first + 4 * length words
   whole : IsWhole s words
   bytes_left : AreBytes rest
 
-read_part : (s : Section) (words : List ℕ) (first place : ℕ) (bytes rest : List ℕ) → AreBytes bytes
-    → section_from s [] first bytes ≡ Whole words place rest → Read s words first place bytes rest
-read_part s words first place bytes rest are e =
-    let from = part_from s words place rest [] first bytes are (none_allowed s) e in
+read_part : (s : Section) (words : List ℕ) (first offset : ℕ) (bytes rest : List ℕ) → AreBytes bytes
+    → section_from s [] first bytes ≡ Whole words offset rest → Read s words first offset bytes rest
+read_part s words first offset bytes rest are e =
+    let from = part_from s words offset rest [] first bytes are (none_allowed s) e in
     let same : words ≡ from.more = from.joined in
     let spelled : bytes ≡ bytes_of words ++ rest = rw same from.spelled in
     record {
@@ -234,50 +234,50 @@ module _ (a b c d e : List ℕ) (whole_a : IsWhole section.Front a) (whole_b : I
       (words_each d whole_d.allowed.fits))
       (words_each e whole_e.allowed.fits))
 
-spelled_as : (o : Outline) (words : List ℕ) (first place : ℕ) (bytes rest : List ℕ) → words ≡ outline_words o
-    → bytes ≡ bytes_of words ++ rest → place ≡ first + 4 * length words → IsOutline o → AreWords (outline_words o)
-    → IsSpelled o first place bytes rest
-spelled_as o words first place bytes rest is spelled moved bounds fit = record {
+spelled_as : (o : Outline) (words : List ℕ) (first offset : ℕ) (bytes rest : List ℕ) → words ≡ outline_words o
+    → bytes ≡ bytes_of words ++ rest → offset ≡ first + 4 * length words → IsOutline o → AreWords (outline_words o)
+    → IsSpelled o first offset bytes rest
+spelled_as o words first offset bytes rest is spelled moved bounds fit = record {
   spelled = subst (λ w. bytes ≡ bytes_of w ++ rest) is spelled;
-  moved = subst (λ w. place ≡ first + 4 * length w) is moved;
+  moved = subst (λ w. offset ≡ first + 4 * length w) is moved;
   bounds = bounds;
   words = fit;
 }
 
-pub one_spelling : (o : Outline) (first place : ℕ) (bytes rest : List ℕ) → AreBytes bytes
-    → outline_from first bytes ≡ Whole o place rest → IsSpelled o first place bytes rest
+pub one_spelling : (o : Outline) (first offset : ℕ) (bytes rest : List ℕ) → AreBytes bytes
+    → outline_from first bytes ≡ Whole o offset rest → IsSpelled o first offset bytes rest
 unfolding outline_from
-one_spelling o first place bytes rest are found =
+one_spelling o first offset bytes rest are found =
     let f1 =
     then_from (section_from section.Front [] first bytes) (λ words. registers_from (height_in words)
-    (played_in words)) o place rest found in
+    (played_in words)) o offset rest found in
     let a = f1.value in
     let h = height_in a in
-    let r1 = read_part section.Front a first f1.place bytes f1.rest are f1.was in
+    let r1 = read_part section.Front a first f1.offset bytes f1.rest are f1.was in
     let f2 =
-    then_from (section_from (section.Registers h) [] f1.place f1.rest) (λ words. pending_from
-    (begun (played_in a) (registers_in h words))) o place rest f1.behind in
+    then_from (section_from (section.Registers h) [] f1.offset f1.rest) (λ words. pending_from
+    (begun (played_in a) (registers_in h words))) o offset rest f1.after in
     let b = f2.value in
-    let r2 = read_part (section.Registers h) b f1.place f2.place f1.rest f2.rest r1.bytes_left f2.was in
+    let r2 = read_part (section.Registers h) b f1.offset f2.offset f1.rest f2.rest r1.bytes_left f2.was in
     let first_parts = begun (played_in a) (registers_in h b) in
     let f3 =
-    then_from (section_from (section.Pending h) [] f2.place f2.rest) (λ words. store_from
-    (record first_parts { pending = pending_in words; load = load_in words })) o place rest f2.behind in
+    then_from (section_from (section.Pending h) [] f2.offset f2.rest) (λ words. store_from
+    (record first_parts { pending = pending_in words; load = load_in words })) o offset rest f2.after in
     let c = f3.value in
-    let r3 = read_part (section.Pending h) c f2.place f3.place f2.rest f3.rest r2.bytes_left f3.was in
+    let r3 = read_part (section.Pending h) c f2.offset f3.offset f2.rest f3.rest r2.bytes_left f3.was in
     let f4 =
-    then_from (section_from (section.Store h) [] f3.place f3.rest) (λ words. run_from
-    (record first_parts { pending = pending_in c; load = load_in c; store = store_in words })) o place rest f3.behind in
+    then_from (section_from (section.Store h) [] f3.offset f3.rest) (λ words. run_from
+    (record first_parts { pending = pending_in c; load = load_in c; store = store_in words })) o offset rest f3.after in
     let d = f4.value in
-    let r4 = read_part (section.Store h) d f3.place f4.place f3.rest f4.rest r3.bytes_left f4.was in
+    let r4 = read_part (section.Store h) d f3.offset f4.offset f3.rest f4.rest r3.bytes_left f4.was in
     let f5 =
-    then_from (section_from section.Run [] f4.place f4.rest) (λ words. Whole
-    (outline_in a b c d words)) o place rest f4.behind in
+    then_from (section_from section.Run [] f4.offset f4.rest) (λ words. Whole
+    (outline_in a b c d words)) o offset rest f4.after in
     let e = f5.value in
-    let r5 = read_part section.Run e f4.place f5.place f4.rest f5.rest r4.bytes_left f5.was in
-    let made : outline_in a b c d e ≡ o = ap (value_or o) f5.behind in
-    let at : f5.place ≡ place = ap place_or f5.behind in
-    let left : f5.rest ≡ rest = ap rest_or f5.behind in
+    let r5 = read_part section.Run e f4.offset f5.offset f4.rest f5.rest r4.bytes_left f5.was in
+    let made : outline_in a b c d e ≡ o = ap (value_or o) f5.after in
+    let at : f5.offset ≡ offset = ap offset_or f5.after in
+    let left : f5.rest ≡ rest = ap rest_or f5.after in
     let m1 = r1.moved in let m2 = r2.moved in let m3 = r3.moved in let m4 = r4.moved in let m5 = r5.moved in
     let n2 = length-append a b in let n3 = length-append (a ++ b) c in
     let n4 = length-append ((a ++ b) ++ c) d in let n5 = length-append (((a ++ b) ++ c) ++ d) e in
@@ -286,8 +286,8 @@ one_spelling o first place bytes rest are found =
     (joined ((a ++ b) ++ c) d bytes f3.rest f4.rest
     (joined (a ++ b) c bytes f2.rest f3.rest
     (joined a b bytes f1.rest f2.rest r1.spelled r2.spelled) r3.spelled) r4.spelled) r5.spelled in
-    subst (λ o. IsSpelled o first place bytes rest) made
-    (spelled_as (outline_in a b c d e) ((((a ++ b) ++ c) ++ d) ++ e) first place bytes rest
+    subst (λ o. IsSpelled o first offset bytes rest) made
+    (spelled_as (outline_in a b c d e) ((((a ++ b) ++ c) ++ d) ++ e) first offset bytes rest
     (sym (all_spelled a b c d e r1.whole r2.whole r3.whole r4.whole r5.whole))
     (subst (λ r. bytes ≡ bytes_of ((((a ++ b) ++ c) ++ d) ++ e) ++ r) left spelled)
     (omega (arith, m1, m2, m3, m4, m5, n2, n3, n4, n5, at))

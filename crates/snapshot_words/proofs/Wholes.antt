@@ -25,7 +25,7 @@ use Rattle.snapshot_words.specs.Sections.{wants, allows, is_address, is_line, Ar
 use Rattle.snapshot_words.specs.Values.{front_words, job_words, store_words, pending_words, run_words}
 use Rattle.snapshot_words.specs.declared.section.Section.TheVariants as section
 use Rattle.snapshot_words.proofs.Gathering.{none_allowed, allowed_on}
-use Rattle.snapshot_words.proofs.Packets.{allows_behind}
+use Rattle.snapshot_words.proofs.Packets.{allows_after}
 
 -- ---- words that fit
 
@@ -199,7 +199,7 @@ module _ (height n f : ℕ) (few : n < first_len_of f) where
       → allows (section.Pending height) (1 ∷ n ∷ got) w ≡ true
   packet_may [] w head short =
       let some : 1 < first_len_of f = omega (arith, few, short) in
-      rw head (allows_behind height 1 n [] f refl ∙ lt-ltb 1 (first_len_of f) some)
+      rw head (allows_after height 1 n [] f refl ∙ lt-ltb 1 (first_len_of f) some)
   packet_may (g ∷ gs) w head short =
       let one : (length (1 ∷ n ∷ g ∷ gs) == 1) ≡ false =
       ne_eqb (length (1 ∷ n ∷ g ∷ gs)) 1 (λ e. absurd (omega (arith, e))) in
@@ -207,7 +207,7 @@ module _ (height n f : ℕ) (few : n < first_len_of f) where
       ne_eqb (length (1 ∷ n ∷ g ∷ gs)) 2 (λ e. absurd (omega (arith, e))) in
       let part : nat_lt (length (1 ∷ n ∷ f ∷ gs) - 1) (first_len_of f) ≡ true =
       lt-ltb _ _ (omega (arith, few, short)) in
-      allows_behind height 1 n (g ∷ gs) w refl ∙ (rw (one, two) (rw head part))
+      allows_after height 1 n (g ∷ gs) w refl ∙ (rw (one, two) (rw head part))
 
   packet_allowed : (most : n ≤ 11) (got more : List ℕ) → AreWords more → slice_index (got ++ more) 0 ≡ f
       → length got + length more ≡ n → AreAllowed (section.Pending height) (1 ∷ n ∷ got)

@@ -20,9 +20,9 @@ pub data Found (A : Type 0) : Type 0 where
 
 -- a value, then the meaning of the bytes after it
 abbrev pub found_then : {A B : Type 0} → Found A → (A → ℕ → List ℕ → Found B) → Found B
-found_then (Whole value place rest) next = next value place rest
-found_then (Short place) next = Short place
-found_then (Bad place word) next = Bad place word
+found_then (Whole value offset rest) next = next value offset rest
+found_then (Short offset) next = Short offset
+found_then (Bad offset word) next = Bad offset word
 
 -- ---- one part
 
@@ -31,17 +31,17 @@ abbrev pub word_of : (a b c d : ℕ) → ℕ
 word_of a b c d = little_number 4 (a ∷ b ∷ c ∷ d ∷ [])
 
 -- the words of a part; `got` are its words so far
-abbrev pub section_from : Section → (got : List ℕ) → (place : ℕ) → (bytes : List ℕ) → Found (List ℕ)
-section_from s got place [] = if wants s got then Short place else Whole got place []
-section_from s got place (a ∷ []) = if wants s got then Short (place + 1) else Whole got place (a ∷ [])
-section_from s got place (a ∷ b ∷ []) = if wants s got then Short (place + 2) else Whole got place (a ∷ b ∷ [])
-section_from s got place (a ∷ b ∷ c ∷ []) =
-    if wants s got then Short (place + 3) else Whole got place (a ∷ b ∷ c ∷ [])
-section_from s got place (a ∷ b ∷ c ∷ d ∷ rest) =
+abbrev pub section_from : Section → (got : List ℕ) → (offset : ℕ) → (bytes : List ℕ) → Found (List ℕ)
+section_from s got offset [] = if wants s got then Short offset else Whole got offset []
+section_from s got offset (a ∷ []) = if wants s got then Short (offset + 1) else Whole got offset (a ∷ [])
+section_from s got offset (a ∷ b ∷ []) = if wants s got then Short (offset + 2) else Whole got offset (a ∷ b ∷ [])
+section_from s got offset (a ∷ b ∷ c ∷ []) =
+    if wants s got then Short (offset + 3) else Whole got offset (a ∷ b ∷ c ∷ [])
+section_from s got offset (a ∷ b ∷ c ∷ d ∷ rest) =
     let word = word_of a b c d in
     if wants s got then
-    (if allows s got word then section_from s (got ++ word ∷ []) (place + 4) rest else Bad place word)
-    else Whole got place (a ∷ b ∷ c ∷ d ∷ rest)
+    (if allows s got word then section_from s (got ++ word ∷ []) (offset + 4) rest else Bad offset word)
+    else Whole got offset (a ∷ b ∷ c ∷ d ∷ rest)
 
 -- ---- a state without its memories: its parts, one after another
 
@@ -54,30 +54,30 @@ begun played regs =
 
 -- after the open store
 abbrev pub run_from : Outline → ℕ → List ℕ → Found Outline
-run_from o place bytes =
-    found_then (section_from section.Run [] place bytes) (λ words. Whole (record o { run = run_in words }))
+run_from o offset bytes =
+    found_then (section_from section.Run [] offset bytes) (λ words. Whole (record o { run = run_in words }))
 
 -- after what is pending
 abbrev pub store_from : Outline → ℕ → List ℕ → Found Outline
-store_from o place bytes =
-    found_then (section_from (section.Store o.regs.height) [] place bytes)
+store_from o offset bytes =
+    found_then (section_from (section.Store o.regs.height) [] offset bytes)
     (λ words. run_from (record o { store = store_in words }))
 
 -- after the registers
 abbrev pub pending_from : Outline → ℕ → List ℕ → Found Outline
-pending_from o place bytes =
-    found_then (section_from (section.Pending o.regs.height) [] place bytes)
+pending_from o offset bytes =
+    found_then (section_from (section.Pending o.regs.height) [] offset bytes)
     (λ words. store_from (record o { pending = pending_in words; load = load_in words }))
 
 -- after the front
 abbrev pub registers_from : (height played : ℕ) → ℕ → List ℕ → Found Outline
-registers_from height played place bytes =
-    found_then (section_from (section.Registers height) [] place bytes)
+registers_from height played offset bytes =
+    found_then (section_from (section.Registers height) [] offset bytes)
     (λ words. pending_from (begun played (registers_in height words)))
 
-unfoldable pub outline_from : (place : ℕ) → List ℕ → Found Outline
-outline_from place bytes =
-    found_then (section_from section.Front [] place bytes)
+unfoldable pub outline_from : (offset : ℕ) → List ℕ → Found Outline
+outline_from offset bytes =
+    found_then (section_from section.Front [] offset bytes)
     (λ words. registers_from (height_in words) (played_in words))
 
 -- ---- a whole state
@@ -88,10 +88,10 @@ words_in (a ∷ b ∷ c ∷ d ∷ rest) = word_of a b c d ∷ words_in rest
 words_in short = []
 
 -- `count` words, with any values
-abbrev pub memory_from : (count : ℕ) → (place : ℕ) → List ℕ → Found (List ℕ)
-memory_from count place bytes =
-    if nat_lt (length bytes) (4 * count) then Short (place + length bytes)
-    else Whole (words_in (take (4 * count) bytes)) (place + 4 * count) (drop (4 * count) bytes)
+abbrev pub memory_from : (count : ℕ) → (offset : ℕ) → List ℕ → Found (List ℕ)
+memory_from count offset bytes =
+    if nat_lt (length bytes) (4 * count) then Short (offset + length bytes)
+    else Whole (words_in (take (4 * count) bytes)) (offset + 4 * count) (drop (4 * count) bytes)
 
 -- a state with its memories: the cells of video memory, and the words of main memory
 pub record Snapshot : Type 0 where
@@ -105,11 +105,11 @@ ram_words = 524288
 
 -- after the outline
 abbrev pub memories_from : Outline → ℕ → List ℕ → Found Snapshot
-memories_from o place bytes =
-    found_then (memory_from (512 * o.regs.height) place bytes) (λ cells place rest.
-    found_then (memory_from ram_words place rest) (λ ram.
+memories_from o offset bytes =
+    found_then (memory_from (512 * o.regs.height) offset bytes) (λ cells offset rest.
+    found_then (memory_from ram_words offset rest) (λ ram.
     Whole (record { outline = o; m = cells_in cells; ram = ram })))
 
 -- the state after the file header
-unfoldable pub state_from : (place : ℕ) → List ℕ → Found Snapshot
-state_from place bytes = found_then (outline_from place bytes) memories_from
+unfoldable pub state_from : (offset : ℕ) → List ℕ → Found Snapshot
+state_from offset bytes = found_then (outline_from offset bytes) memories_from

@@ -24,24 +24,24 @@ pub record IsWord (before now : Option (List ℕ)) (word : ℕ) : Type 0 where
 
 -- why no word could be read, after `taken`, fewer than 4 bytes of it
 abbrev pub SaysNoWord : SnapFault → ℕ → List ℕ → Option (List ℕ) → Type 0
-SaysNoWord (fault.Stop (Truncated byte)) place taken now =
-    (length taken < 4) × (byte ≡ place + length taken) × IsAtEnd now
-SaysNoWord (fault.Stop (ReadFault byte)) place taken now = (length taken < 4) × (byte ≡ place + length taken)
-SaysNoWord (fault.Stop other) place taken now = ⊥
-SaysNoWord (fault.Bad byte word) place taken now = ⊥
+SaysNoWord (fault.Stop (Truncated byte)) offset taken now =
+    (length taken < 4) × (byte ≡ offset + length taken) × IsAtEnd now
+SaysNoWord (fault.Stop (ReadFault byte)) offset taken now = (length taken < 4) × (byte ≡ offset + length taken)
+SaysNoWord (fault.Stop other) offset taken now = ⊥
+SaysNoWord (fault.Bad byte word) offset taken now = ⊥
 
-pub record EndsWord (before now : Option (List ℕ)) (place : ℕ) (why : SnapFault) : Type 0 where
+pub record EndsWord (before now : Option (List ℕ)) (offset : ℕ) (why : SnapFault) : Type 0 where
   pub taken : List ℕ
   pub bytes : before ≡ prepended taken now
-  pub says : SaysNoWord why place taken now
+  pub says : SaysNoWord why offset taken now
 
 -- not all of `count` words were there: after some complete words came only a part of the next one
-pub record BreaksOff (before now : Option (List ℕ)) (place count : ℕ) (why : SnapFault) : Type 0 where
+pub record BreaksOff (before now : Option (List ℕ)) (offset count : ℕ) (why : SnapFault) : Type 0 where
   pub got : List ℕ
   pub part : List ℕ
   pub bytes : before ≡ prepended (bytes_of got ++ part) now
   pub few : length got < count
-  pub says : SaysNoWord why (place + 4 * length got) part now
+  pub says : SaysNoWord why (offset + 4 * length got) part now
 
 -- ---- the meaning of what is read
 
@@ -55,7 +55,7 @@ SaysFault (fault.Stop other) found taken now = ⊥
 
 -- these bytes are truncated
 abbrev pub IsShort : {A : Type 0} → Found A → Type 0
-IsShort (Short place) = Unit {0}
+IsShort (Short offset) = Unit {0}
 IsShort found = ⊥
 
 -- all of these bytes are needed: any proper prefix of them is truncated
@@ -71,29 +71,29 @@ pub record Stops {A : Type 0} (found : List ℕ → Found A) (before now : Optio
 
 -- the bytes left in a source, and the offset of the first of them
 pub record Remainder : Type 0 where
-  pub place : ℕ
+  pub offset : ℕ
   pub left : Option (List ℕ)
 
 abbrev pub remainder : ℕ → Option (List ℕ) → Remainder
-remainder place left = record { place = place; left = left }
+remainder offset left = record { offset = offset; left = left }
 
 -- The words of a part so far were read. Whatever follows, reading continues after them at the new offset.
 pub record Goes (s : Section) (before now : Remainder) (got : List ℕ) : Type 0 where
   pub bytes : before.left ≡ prepended (bytes_of got) now.left
-  pub needed : AreNeeded (section_from s [] before.place) (bytes_of got)
+  pub needed : AreNeeded (section_from s [] before.offset) (bytes_of got)
   pub says : (rest : List ℕ)
-      → section_from s [] before.place (bytes_of got ++ rest) ≡ section_from s got now.place rest
+      → section_from s [] before.offset (bytes_of got ++ rest) ≡ section_from s got now.offset rest
 
 -- the words of a whole part were read
 pub record Takes (s : Section) (before now : Remainder) (words : List ℕ) : Type 0 where
   pub bytes : before.left ≡ prepended (bytes_of words) now.left
-  pub needed : AreNeeded (section_from s [] before.place) (bytes_of words)
-  pub moved : now.place ≡ before.place + 4 * length words
-  pub says : (rest : List ℕ) → section_from s [] before.place (bytes_of words ++ rest) ≡ Whole words now.place rest
+  pub needed : AreNeeded (section_from s [] before.offset) (bytes_of words)
+  pub moved : now.offset ≡ before.offset + 4 * length words
+  pub says : (rest : List ℕ) → section_from s [] before.offset (bytes_of words ++ rest) ≡ Whole words now.offset rest
 
 -- the words of a state without its memories were read, and no more bytes
-pub record TakesOutline (before now : Option (List ℕ)) (first place : ℕ) (o : Outline) : Type 0 where
+pub record TakesOutline (before now : Option (List ℕ)) (first offset : ℕ) (o : Outline) : Type 0 where
   pub bytes : before ≡ prepended (bytes_of (outline_words o)) now
   pub needed : AreNeeded (outline_from first) (bytes_of (outline_words o))
-  pub moved : place ≡ first + 4 * length (outline_words o)
-  pub says : (rest : List ℕ) → outline_from first (bytes_of (outline_words o) ++ rest) ≡ Whole o place rest
+  pub moved : offset ≡ first + 4 * length (outline_words o)
+  pub says : (rest : List ℕ) → outline_from first (bytes_of (outline_words o) ++ rest) ≡ Whole o offset rest

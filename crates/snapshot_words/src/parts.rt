@@ -24,20 +24,20 @@ use vram_copy::Transfer;
 #[tactic(auto, using(crate::proofs::Shapes::front_is))]
 pub(crate) fn read_front<S: Source>(
     source: &mut S,
-    place: &mut u32,
+    offset: &mut u32,
 ) -> Result<(u16, u64), SnapFault>
-    requires place { place.old < 2 ^ 30 }
+    requires offset { offset.old < 2 ^ 30 }
     ensures takes { IfOk result (λ front.
-        Takes Section.Front (remainder place.old (S.left source.old))
-        (remainder place.new (S.left source.new)) (front_words front.0 front.1)) }
+        Takes Section.Front (remainder offset.old (S.left source.old))
+        (remainder offset.new (S.left source.new)) (front_words front.0 front.1)) }
     ensures height { IfOk result (λ front. IsHeight front.0) }
     ensures few { IfOk result (λ front. front.1 < 2 ^ 63) }
-    ensures near { place.new ≤ place.old + 52 }
+    ensures near { offset.new ≤ offset.old + 52 }
     ensures fault { IfErr result (λ fault.
-        Stops (section_from Section.Front [] place.old) (S.left source.old) (S.left source.new) fault) }
+        Stops (section_from Section.Front [] offset.old) (S.left source.old) (S.left source.new) fault) }
     ensures faults { CountsFaults IsReadFault (S.faults source.old) (S.faults source.new) result }
 {
-    match take_section(source, place, Section::Front) {
+    match take_section(source, offset, Section::Front) {
         Ok(words) => Ok(front_in(words.as_slice())),
         Err(fault) => Err(fault),
     }
@@ -47,22 +47,22 @@ pub(crate) fn read_front<S: Source>(
 #[tactic(auto, using(crate::proofs::Shapes::registers_are))]
 pub(crate) fn read_registers<S: Source>(
     source: &mut S,
-    place: &mut u32,
+    offset: &mut u32,
     height: u16,
 ) -> Result<Regs, SnapFault>
     requires height { IsHeight height }
-    requires place { place.old < 2 ^ 30 }
+    requires offset { offset.old < 2 ^ 30 }
     ensures takes { IfOk result (λ regs.
-        Takes (Section.Registers height) (remainder place.old (S.left source.old))
-        (remainder place.new (S.left source.new)) (words_of regs)) }
+        Takes (Section.Registers height) (remainder offset.old (S.left source.old))
+        (remainder offset.new (S.left source.new)) (words_of regs)) }
     ensures height { IfOk result (λ regs. regs.height ≡ height) }
     ensures bits { IfOk result (λ regs. RegisterBits height (words_of regs)) }
-    ensures near { place.new ≤ place.old + 52 }
+    ensures near { offset.new ≤ offset.old + 52 }
     ensures fault { IfErr result (λ fault.
-        Stops (section_from (Section.Registers height) [] place.old) (S.left source.old) (S.left source.new) fault) }
+        Stops (section_from (Section.Registers height) [] offset.old) (S.left source.old) (S.left source.new) fault) }
     ensures faults { CountsFaults IsReadFault (S.faults source.old) (S.faults source.new) result }
 {
-    match take_section(source, place, Section::Registers { height }) {
+    match take_section(source, offset, Section::Registers { height }) {
         Ok(words) => Ok(registers_in(height, words.as_slice())),
         Err(fault) => Err(fault),
     }
@@ -72,21 +72,21 @@ pub(crate) fn read_registers<S: Source>(
 #[tactic(auto, using(crate::proofs::Shapes::store_is))]
 pub(crate) fn read_store<S: Source>(
     source: &mut S,
-    place: &mut u32,
+    offset: &mut u32,
     height: u16,
 ) -> Result<Option<Transfer>, SnapFault>
     requires height { IsHeight height }
-    requires place { place.old < 2 ^ 30 }
+    requires offset { offset.old < 2 ^ 30 }
     ensures takes { IfOk result (λ store.
-        Takes (Section.Store height) (remainder place.old (S.left source.old))
-        (remainder place.new (S.left source.new)) (store_words store)) }
+        Takes (Section.Store height) (remainder offset.old (S.left source.old))
+        (remainder offset.new (S.left source.new)) (store_words store)) }
     ensures bounds { IfOk result (λ store. IsOpen height store) }
-    ensures near { place.new ≤ place.old + 52 }
+    ensures near { offset.new ≤ offset.old + 52 }
     ensures fault { IfErr result (λ fault.
-        Stops (section_from (Section.Store height) [] place.old) (S.left source.old) (S.left source.new) fault) }
+        Stops (section_from (Section.Store height) [] offset.old) (S.left source.old) (S.left source.new) fault) }
     ensures faults { CountsFaults IsReadFault (S.faults source.old) (S.faults source.new) result }
 {
-    match take_section(source, place, Section::Store { height }) {
+    match take_section(source, offset, Section::Store { height }) {
         Ok(words) => Ok(store_in(height, words.as_slice())),
         Err(fault) => Err(fault),
     }
@@ -96,21 +96,21 @@ pub(crate) fn read_store<S: Source>(
 #[tactic(auto, using(crate::proofs::Pendings::pending_is))]
 pub(crate) fn read_pending<S: Source>(
     source: &mut S,
-    place: &mut u32,
+    offset: &mut u32,
     height: u16,
 ) -> Result<(Pending, Option<Transfer>), SnapFault>
     requires height { IsHeight height }
-    requires place { place.old < 2 ^ 30 }
+    requires offset { offset.old < 2 ^ 30 }
     ensures takes { IfOk result (λ part.
-        Takes (Section.Pending height) (remainder place.old (S.left source.old))
-        (remainder place.new (S.left source.new)) (pending_words part.0 part.1)) }
+        Takes (Section.Pending height) (remainder offset.old (S.left source.old))
+        (remainder offset.new (S.left source.new)) (pending_words part.0 part.1)) }
     ensures bounds { IfOk result (λ part. ArePending height part.0 part.1) }
-    ensures near { place.new ≤ place.old + 52 }
+    ensures near { offset.new ≤ offset.old + 52 }
     ensures fault { IfErr result (λ fault.
-        Stops (section_from (Section.Pending height) [] place.old) (S.left source.old) (S.left source.new) fault) }
+        Stops (section_from (Section.Pending height) [] offset.old) (S.left source.old) (S.left source.new) fault) }
     ensures faults { CountsFaults IsReadFault (S.faults source.old) (S.faults source.new) result }
 {
-    match take_section(source, place, Section::Pending { height }) {
+    match take_section(source, offset, Section::Pending { height }) {
         Ok(words) => {
             let words = words.as_slice();
             Ok((pending_in(height, words), load_in(height, words)))
@@ -121,18 +121,18 @@ pub(crate) fn read_pending<S: Source>(
 
 /// Reads the running transfer.
 #[tactic(auto, using(crate::proofs::Pendings::run_is))]
-pub(crate) fn read_run<S: Source>(source: &mut S, place: &mut u32) -> Result<Run, SnapFault>
-    requires place { place.old < 2 ^ 30 }
+pub(crate) fn read_run<S: Source>(source: &mut S, offset: &mut u32) -> Result<Run, SnapFault>
+    requires offset { offset.old < 2 ^ 30 }
     ensures takes { IfOk result (λ run.
-        Takes Section.Run (remainder place.old (S.left source.old))
-        (remainder place.new (S.left source.new)) (run_words run)) }
+        Takes Section.Run (remainder offset.old (S.left source.old))
+        (remainder offset.new (S.left source.new)) (run_words run)) }
     ensures bounds { IfOk result IsRun }
-    ensures near { place.new ≤ place.old + 52 }
+    ensures near { offset.new ≤ offset.old + 52 }
     ensures fault { IfErr result (λ fault.
-        Stops (section_from Section.Run [] place.old) (S.left source.old) (S.left source.new) fault) }
+        Stops (section_from Section.Run [] offset.old) (S.left source.old) (S.left source.new) fault) }
     ensures faults { CountsFaults IsReadFault (S.faults source.old) (S.faults source.new) result }
 {
-    match take_section(source, place, Section::Run) {
+    match take_section(source, offset, Section::Run) {
         Ok(words) => Ok(run_in(words.as_slice())),
         Err(fault) => Err(fault),
     }

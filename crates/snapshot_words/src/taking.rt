@@ -23,11 +23,11 @@ fn word_in(bytes: &[u8; 4]) -> u32
     LittleEndian::read_u32(bytes)
 }
 
-/// Reads a word. `place` is its byte offset, which only the error names.
-pub fn take_word<S: Source>(source: &mut S, place: u32) -> Result<u32, SnapFault>
-    requires { place < 2 ^ 31 }
+/// Reads a word. `offset` is its byte offset, which only the error names.
+pub fn take_word<S: Source>(source: &mut S, offset: u32) -> Result<u32, SnapFault>
+    requires { offset < 2 ^ 31 }
     ensures word { IfOk result (λ word. IsWord (S.left source.old) (S.left source.new) word) }
-    ensures fault { IfErr result (λ fault. EndsWord (S.left source.old) (S.left source.new) place fault) }
+    ensures fault { IfErr result (λ fault. EndsWord (S.left source.old) (S.left source.new) offset fault) }
     ensures cause { IfErr result (λ fault. IsReadFault fault → Rose (S.faults source.old) (S.faults source.new)) }
     ensures faults { S.faults source.old ≤ S.faults source.new }
 {
@@ -36,39 +36,40 @@ pub fn take_word<S: Source>(source: &mut S, place: u32) -> Result<u32, SnapFault
         Ok(4) => Ok(word_in(&bytes)),
         Ok(n) => {
             let stop = Stop::Truncated {
-                byte: place + n as u32,
+                byte: offset + n as u32,
             };
             Err(SnapFault::Stop { stop })
         }
         Err(n) => {
             let stop = Stop::ReadFault {
-                byte: place + n as u32,
+                byte: offset + n as u32,
             };
             Err(SnapFault::Stop { stop })
         }
     }
 }
 
-/// Reads the words of a part. `place` is the byte offset of the first one, and on success the offset after the last
+/// Reads the words of a part. `offset` is the byte offset of the first one, and on success the offset after the last
 /// one.
 pub(crate) fn take_section<S: Source>(
     source: &mut S,
-    place: &mut u32,
+    offset: &mut u32,
     section: Section,
 ) -> Result<ArrayVec<u32, 16>, SnapFault>
     requires section { IsSection section }
-    requires place { place.old < 2 ^ 30 }
+    requires offset { offset.old < 2 ^ 30 }
     ensures takes { IfOk result (λ words.
-        Takes section (remainder place.old (S.left source.old)) (remainder place.new (S.left source.new)) words.items) }
+        Takes section (remainder offset.old (S.left source.old))
+        (remainder offset.new (S.left source.new)) words.items) }
     ensures whole { IfOk result (λ words. IsWhole section words.items) }
-    ensures near { place.new ≤ place.old + 52 }
+    ensures near { offset.new ≤ offset.old + 52 }
     ensures fault { IfErr result (λ fault.
-        Stops (section_from section [] place.old) (S.left source.old) (S.left source.new) fault) }
+        Stops (section_from section [] offset.old) (S.left source.old) (S.left source.new) fault) }
     ensures faults { CountsFaults IsReadFault (S.faults source.old) (S.faults source.new) result }
 {
     let mut words = ArrayVec::<u32, 16>::new();
     'words: while wants(section, words.as_slice()) {
-        let at = *place;
+        let at = *offset;
         let word = match take_word(source, at) {
             Ok(word) => word,
             Err(fault) => return Err(fault),
@@ -77,7 +78,7 @@ pub(crate) fn take_section<S: Source>(
             return Err(SnapFault::Bad { byte: at, word });
         }
         words.push(word);
-        *place = at + 4;
+        *offset = at + 4;
     }
     Ok(words)
 }

@@ -13,7 +13,7 @@ use vram_store::Steps;
 
 // Cuts a capture of seven events, with a triangle among them, after `n` events. Returns the ending and the number of
 // bytes written.
-fn cut_behind<L: Ledger>(alloc: Global, blank: Blank, n: u32) -> Result<(CutEnding, usize), Fail>
+fn cut_after<L: Ledger>(alloc: Global, blank: Blank, n: u32) -> Result<(CutEnding, usize), Fail>
     requires name { blank.name ≡ L.name }
     requires parts { blank.parts ≡ L.parts }
     requires some { 0 < blank.parts }
@@ -45,10 +45,10 @@ fn cut_behind<L: Ledger>(alloc: Global, blank: Blank, n: u32) -> Result<(CutEndi
 
 #[test]
 fn the_state_and_the_later_records_are_written(rt: HostRuntime) -> Result<(), Fail> {
-    let (ending, size) = cut_behind::<Brand>(rt.alloc(), Blank::new(1), 3)?;
+    let (ending, size) = cut_after::<Brand>(rt.alloc(), Blank::new(1), 3)?;
     assert_eq!(rt; ending, CutEnding::Done);
     assert_eq!(rt; size, 3_145_852);
-    let (ending, size) = cut_behind::<Brand>(rt.alloc(), Blank::new(1), 8)?;
+    let (ending, size) = cut_after::<Brand>(rt.alloc(), Blank::new(1), 8)?;
     assert_eq!(rt; ending, CutEnding::PastEnd { event: 8 });
     assert_eq!(rt; size, 0);
     Ok(())

@@ -1,6 +1,6 @@
 // Output chunks that are buffered before a sink that fails.
 use dev_io::FailSink;
-use gathered_out::Gathered;
+use gathered_out::OutputBuffer;
 use std::alloc::Global;
 use std::test::Fail;
 
@@ -8,16 +8,16 @@ use std::test::Fail;
 // bytes written.
 fn pieces_into(alloc: Global, room: usize) -> Result<(Result<(), u64>, Vec<u8>), Fail> {
     let mut out = FailSink::new(alloc, room, 2, Vec::new(alloc))?;
-    let mut gathered = Gathered::new();
-    let mut answer = gathered.put(3, b"abc", &mut out);
+    let mut buffered = OutputBuffer::new();
+    let mut answer = buffered.put(3, b"abc", &mut out);
     if answer.is_ok() {
-        answer = gathered.put(5, b"de", &mut out);
+        answer = buffered.put(5, b"de", &mut out);
     }
     if answer.is_ok() {
-        answer = gathered.put(9, b"f", &mut out);
+        answer = buffered.put(9, b"f", &mut out);
     }
     if answer.is_ok() {
-        answer = gathered.write(&mut out);
+        answer = buffered.write(&mut out);
     }
     Ok((answer, out.bytes().to_vec(alloc)?))
 }

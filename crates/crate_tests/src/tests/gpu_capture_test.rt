@@ -83,7 +83,7 @@ fn stops_and_their_places(rt: HostRuntime) -> Result<(), Fail> {
 }
 
 #[test]
-fn a_reader_behind_the_head_stops_at_the_limit(rt: HostRuntime) -> Result<(), Fail> {
+fn a_reader_after_the_head_stops_at_the_limit(rt: HostRuntime) -> Result<(), Fail> {
     let alloc = rt.alloc();
     let mut source = MemSource::new(b"\x01\x00\x00\x05\x00\x00\x00\x00".to_vec(alloc)?);
     let mut reader = EventReader::at(1, 1_073_741_820);

@@ -41,17 +41,17 @@ pub(crate) fn bytewise(alloc: Global, bytes: &[u8], fails: &[u64]) -> io::Result
 // Appends a record: its tag and the numbers after it.
 fn push_record(bytes: &mut Vec<u8>, name: &str, numbers: &[u32]) -> io::Result<()> {
     let count = (numbers.len() % 0x1000) as u32;
-    let (tag, behind) = match numbers {
+    let (tag, after) = match numbers {
         _ if name == "gp0" => (0x0200_0000 | count, numbers),
         _ if name == "gp1" => (0x0300_0001, numbers),
         _ if name == "ram" => (0x0100_0000 | count.saturating_sub(1), numbers),
         _ if name == "stat" => (0x0500_0001, numbers),
         _ if name == "begin" => (0x0700_0002, numbers),
-        [first, behind @ ..] => (kind_of(name) | *first, behind),
+        [first, after @ ..] => (kind_of(name) | *first, after),
         [] => return Ok(()),
     };
     push_word(bytes, tag)?;
-    for number in behind {
+    for number in after {
         push_word(bytes, *number)?;
     }
     Ok(())

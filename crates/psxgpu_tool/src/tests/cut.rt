@@ -16,10 +16,10 @@ const LEN: usize = 3_145_852;
 /// The byte offset of the rest of the capture.
 const REST: usize = 3_145_820;
 
-// Whether `want` is at byte offset `place`.
-fn stands_at(bytes: &[u8], place: usize, want: &[u8]) -> bool {
-    if place <= bytes.len() {
-        bytes[place..].starts_with(want)
+// Whether `want` is at byte offset `offset`.
+fn stands_at(bytes: &[u8], offset: usize, want: &[u8]) -> bool {
+    if offset <= bytes.len() {
+        bytes[offset..].starts_with(want)
     } else {
         false
     }

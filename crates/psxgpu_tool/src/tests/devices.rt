@@ -16,11 +16,11 @@ const LINES_OF_RECORDS: &[u8] = b"10802000\n10802000\n14802000\nstatus 14802000\
 /// The byte offset at which each event is complete.
 const EVENT_ENDS: [usize; 11] = [16, 20, 24, 36, 40, 52, 56, 72, 76, 84, 88];
 
-// Returns how many of these ends are at or before `place`.
-fn ends_before(ends: &[usize], place: usize) -> u64 {
+// Returns how many of these ends are at or before `offset`.
+fn ends_before(ends: &[usize], offset: usize) -> u64 {
     let mut count = 0u64;
     for end in ends {
-        if *end <= place {
+        if *end <= offset {
             count = count.saturating_add(1);
         }
     }
@@ -28,12 +28,12 @@ fn ends_before(ends: &[usize], place: usize) -> u64 {
 }
 
 // Returns the lines of the events that are complete at this offset.
-fn lines_before(place: usize) -> &'static [u8] {
-    if place < 24 {
+fn lines_before(offset: usize) -> &'static [u8] {
+    if offset < 24 {
         b""
-    } else if place < 76 {
+    } else if offset < 76 {
         b"10802000\n"
-    } else if place < 88 {
+    } else if offset < 88 {
         b"10802000\n10802000\n"
     } else {
         b"10802000\n10802000\n14802000\n"
@@ -41,12 +41,12 @@ fn lines_before(place: usize) -> &'static [u8] {
 }
 
 // Returns the event to which a byte of the lines belongs.
-fn event_of(place: usize) -> u64 {
-    if place < 9 {
+fn event_of(offset: usize) -> u64 {
+    if offset < 9 {
         3
-    } else if place < 18 {
+    } else if offset < 18 {
         9
-    } else if place < 27 {
+    } else if offset < 27 {
         11
     } else {
         12
@@ -54,27 +54,27 @@ fn event_of(place: usize) -> u64 {
 }
 
 // Whether a capture that ends at this offset is refused as expected.
-fn breaks_off(alloc: Global, bytes: &[u8], place: usize) -> Result<bool, Fail> {
-    let mut source = MemSource::new(bytes.iter().take(place).copied().collect(alloc)?);
-    let n = ends_before(&EVENT_ENDS, place).saturating_add(1);
-    let line = format!(in alloc; "psxgpu: truncated at event {n} byte {place}\n")?;
-    Ok(ran(alloc, "play", &mut source, LINES)?.is(2, lines_before(place), line.as_bytes()))
+fn breaks_off(alloc: Global, bytes: &[u8], offset: usize) -> Result<bool, Fail> {
+    let mut source = MemSource::new(bytes.iter().take(offset).copied().collect(alloc)?);
+    let n = ends_before(&EVENT_ENDS, offset).saturating_add(1);
+    let line = format!(in alloc; "psxgpu: truncated at event {n} byte {offset}\n")?;
+    Ok(ran(alloc, "play", &mut source, LINES)?.is(2, lines_before(offset), line.as_bytes()))
 }
 
 // Whether a failed read of the byte at this offset is reported as expected.
-fn starves(alloc: Global, bytes: &[u8], place: usize) -> Result<bool, Fail> {
-    let mut source = bytewise(alloc, bytes, &[place as u64])?;
-    let n = ends_before(&EVENT_ENDS, place).saturating_add(1);
-    let line = format!(in alloc; "psxgpu: read-fault at event {n} byte {place}\n")?;
-    Ok(ran(alloc, "play", &mut source, LINES)?.is(3, lines_before(place), line.as_bytes()))
+fn starves(alloc: Global, bytes: &[u8], offset: usize) -> Result<bool, Fail> {
+    let mut source = bytewise(alloc, bytes, &[offset as u64])?;
+    let n = ends_before(&EVENT_ENDS, offset).saturating_add(1);
+    let line = format!(in alloc; "psxgpu: read-fault at event {n} byte {offset}\n")?;
+    Ok(ran(alloc, "play", &mut source, LINES)?.is(3, lines_before(offset), line.as_bytes()))
 }
 
 #[test]
 fn a_capture_breaks_off_at_each_byte(rt: HostRuntime) -> Result<(), Fail> {
     let bytes = capture(rt.alloc(), b"PSXGPUC1", RECORDS)?;
     assert_eq!(rt; bytes.len(), 92);
-    for place in 0..92 {
-        assert!(rt; breaks_off(rt.alloc(), &bytes, place)?, "{place}");
+    for offset in 0..92 {
+        assert!(rt; breaks_off(rt.alloc(), &bytes, offset)?, "{offset}");
     }
     Ok(())
 }
@@ -82,8 +82,8 @@ fn a_capture_breaks_off_at_each_byte(rt: HostRuntime) -> Result<(), Fail> {
 #[test]
 fn each_read_fails_in_turn(rt: HostRuntime) -> Result<(), Fail> {
     let bytes = capture(rt.alloc(), b"PSXGPUC1", RECORDS)?;
-    for place in 0..92 {
-        assert!(rt; starves(rt.alloc(), &bytes, place)?, "{place}");
+    for offset in 0..92 {
+        assert!(rt; starves(rt.alloc(), &bytes, offset)?, "{offset}");
     }
     Ok(())
 }
@@ -91,12 +91,12 @@ fn each_read_fails_in_turn(rt: HostRuntime) -> Result<(), Fail> {
 #[test]
 fn each_write_fails_in_turn(rt: HostRuntime) -> Result<(), Fail> {
     let alloc = rt.alloc();
-    for place in 0..LINES_OF_RECORDS.len() {
+    for offset in 0..LINES_OF_RECORDS.len() {
         let bytes = capture(alloc, b"PSXGPUC1", RECORDS)?;
-        let event = event_of(place);
+        let event = event_of(offset);
         assert!(rt;
-            is_refused_at(alloc, "play", bytes, LINES_OF_RECORDS, place, event)?,
-            "{place}"
+            is_refused_at(alloc, "play", bytes, LINES_OF_RECORDS, offset, event)?,
+            "{offset}"
         );
     }
     Ok(())

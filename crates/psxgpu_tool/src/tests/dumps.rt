@@ -93,9 +93,9 @@ fn runs_of(alloc: Global, text: &str) -> io::Result<Option<Vec<Run>>> {
 }
 
 // Returns the value of a cell: that of the run that contains it, or 0.
-fn cell(runs: &[Run], place: usize) -> u16 {
+fn cell(runs: &[Run], index: usize) -> u16 {
     for run in runs {
-        if run.first <= place && place <= run.last {
+        if run.first <= index && index <= run.last {
             return run.value;
         }
     }

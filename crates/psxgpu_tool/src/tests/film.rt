@@ -44,12 +44,12 @@ fn pictures_at_flips_and_at_marks(rt: HostRuntime) -> Result<(), Fail> {
 #[test]
 fn each_byte_of_two_pictures_is_refused(rt: HostRuntime) -> Result<(), Fail> {
     let alloc = rt.alloc();
-    for place in 0..2 * PICTURE {
+    for offset in 0..2 * PICTURE {
         let bytes = capture(alloc, b"PSXGPUC1", RECORDS)?;
-        let event = if place < PICTURE { FLIP } else { END };
+        let event = if offset < PICTURE { FLIP } else { END };
         assert!(rt;
-            is_refused_at(alloc, "frames", bytes, FLIPS, place, event)?,
-            "{place}"
+            is_refused_at(alloc, "frames", bytes, FLIPS, offset, event)?,
+            "{offset}"
         );
     }
     Ok(())

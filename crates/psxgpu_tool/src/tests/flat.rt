@@ -132,10 +132,10 @@ fn flat_captures(rt: HostRuntime) -> Result<(), Fail> {
 }
 
 // Returns the event to which a byte of the flat capture of the list belongs.
-fn event_of(place: usize) -> u64 {
-    if place < 16 {
+fn event_of(offset: usize) -> u64 {
+    if offset < 16 {
         1
-    } else if place < 48 {
+    } else if offset < 48 {
         9
     } else {
         10
@@ -146,12 +146,12 @@ fn event_of(place: usize) -> u64 {
 fn each_write_of_a_flat_capture_fails_in_turn(rt: HostRuntime) -> Result<(), Fail> {
     let alloc = rt.alloc();
     let want = capture(alloc, LIST.flat_head, LIST.flat)?;
-    for place in 0..52usize {
+    for offset in 0..52usize {
         let bytes = capture(alloc, LIST.head, LIST.records)?;
-        let event = event_of(place);
+        let event = event_of(offset);
         assert!(rt;
-            is_refused_at(alloc, "flat", bytes, &want, place, event)?,
-            "{place}"
+            is_refused_at(alloc, "flat", bytes, &want, offset, event)?,
+            "{offset}"
         );
     }
     Ok(())

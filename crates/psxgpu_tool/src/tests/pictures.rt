@@ -71,11 +71,11 @@ fn pixel(x: usize, y: usize) -> [u8; 3] {
 
 fn is_frame(bytes: &[u8]) -> bool {
     for (i, byte) in bytes.iter().enumerate() {
-        let place = i.saturating_sub(HEAD.len());
+        let index = i.saturating_sub(HEAD.len());
         let expected = if i < HEAD.len() {
             HEAD[i]
         } else {
-            pixel(place / 3 % 320, place / 960)[place % 3]
+            pixel(index / 3 % 320, index / 960)[index % 3]
         };
         if *byte != expected {
             return false;

@@ -20,8 +20,8 @@ pub(crate) struct Row<'a> {
 
 /// Parses a row.
 pub(crate) fn row_of(text: &str) -> Option<Row<'_>> {
-    let (words, behind) = text.split_once('<')?;
-    let (records, lines) = behind.split_once('|')?;
+    let (words, after) = text.split_once('<')?;
+    let (records, lines) = after.split_once('|')?;
     let (out, fault) = lines.split_once('|').unwrap_or((lines, "0 "));
     let (status, err) = fault.trim_start().split_once(' ')?;
     Some(Row {

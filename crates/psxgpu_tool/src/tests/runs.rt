@@ -39,17 +39,17 @@ pub(crate) fn is_refused_at(
     words: &str,
     bytes: Vec<u8>,
     want: &[u8],
-    place: usize,
+    offset: usize,
     event: u64,
 ) -> Result<bool, Fail> {
     let mut source = MemSource::new(bytes);
-    let mut out = FailSink::new(alloc, LINES, 1, [place as u64].to_vec(alloc)?)?;
+    let mut out = FailSink::new(alloc, LINES, 1, [offset as u64].to_vec(alloc)?)?;
     let mut err = MemSink::new(alloc, LINES)?;
     let status = status_over(alloc, words, &mut source, &mut out, &mut err)?;
     let line = format!(in alloc; "psxgpu: write-fault at event {event}\n")?;
     Ok(
         status == 4
-            && out.bytes().len() == place
+            && out.bytes().len() == offset
             && want.starts_with(out.bytes())
             && err.bytes() == line.as_bytes(),
     )

@@ -78,28 +78,28 @@ fn captures_without_dead_drawing(rt: HostRuntime) -> Result<(), Fail> {
 }
 
 // Returns the event to which this byte of the covered rectangle's output belongs.
-fn event_of(place: usize) -> u64 {
-    if place < 16 {
+fn event_of(offset: usize) -> u64 {
+    if offset < 16 {
         1
-    } else if place < 20 {
+    } else if offset < 20 {
         5
-    } else if place < 44 {
-        6 + (place as u64 - 20) / 8
+    } else if offset < 44 {
+        6 + (offset as u64 - 20) / 8
     } else {
         9
     }
 }
 
 #[test]
-fn each_write_fails_in_turn_behind_a_window(rt: HostRuntime) -> Result<(), Fail> {
+fn each_write_fails_in_turn_after_a_window(rt: HostRuntime) -> Result<(), Fail> {
     let alloc = rt.alloc();
     let want = capture(alloc, COVERED.head, COVERED.slim)?;
-    for place in 0..48usize {
+    for offset in 0..48usize {
         let bytes = capture(alloc, COVERED.head, COVERED.records)?;
-        let event = event_of(place);
+        let event = event_of(offset);
         assert!(rt;
-            is_refused_at(alloc, "slim", bytes, &want, place, event)?,
-            "{place}"
+            is_refused_at(alloc, "slim", bytes, &want, offset, event)?,
+            "{offset}"
         );
     }
     Ok(())

@@ -16,7 +16,7 @@ returns-in_err-play_answer-clause-ends g c = λ s held e.
     (c.raise.ensures (from_state s 0) (record { state = e; played = sym c.requires.unplayed })) c.version.ensures.value
     c.next-first.ensures.takes c.next-first.ensures.version (c.next-first.ensures.stop c.new-reader.ensures.stop) in
     rw (p.1, p.2) (early_ends 0 _ _ _ _ _ _ _ _ _ _ (omega (arith, c.requires.some)) c.ranges.n.fits _ at _ refl
-    (c.in_err-play_answer.ensures.ends at.tale at.stands.rig_is) c.in_err-play_answer.ensures.idle)
+    (c.in_err-play_answer.ensures.ends at.replay at.stands.rig_is) c.in_err-play_answer.ensures.idle)
 
 pub returns-in_err-play_answer-clause-cause : goal.returns-in_err-play_answer-clause-cause
 returns-in_err-play_answer-clause-cause g c =
@@ -31,7 +31,7 @@ events-init g c = record {
       (c.raise.ensures (from_state s 0) (record { state = e; played = sym c.requires.unplayed }))
       c.version.ensures.value c.next-first.ensures.takes c.next-first.ensures.version
       (c.next-first.ensures.stop c.new-reader.ensures.stop) in
-      played_on 0 _ _ _ _ _ _ _ _ _ _ at (c.in_ok-play_answer.ensures.ok at.tale at.stands.rig_is) (omega arith);
+      played_on 0 _ _ _ _ _ _ _ _ _ _ at (c.in_ok-play_answer.ensures.ok at.replay at.stands.rig_is) (omega arith);
   ready = answered c.next-first.result _ c.in_ok-play_answer.ensures.answered c.next-first.ensures.keeps.runs_on;
   few = let less = answered c.next-first.result _ c.in_ok-play_answer.ensures.answered c.next-first.ensures.forward in
       omega (arith, less, c.new-reader.ensures.work);
@@ -45,7 +45,7 @@ returns-in_err-play_answer-2-clause-ends g c = λ s held e.
     let at = awaits_next _ _ _ _ _ _ _ _ c.next-next.result (c.events.invariant.first s held e)
     c.next-next.ensures.takes c.next-next.ensures.version (c.next-next.ensures.stop c.events.invariant.ready) in
     rw (p.1, p.2) (early_ends _ _ _ _ _ _ _ _ _ _ _ c.events-test.true c.ranges.n.fits _ at _ refl
-    (c.in_err-play_answer-2.ensures.ends at.tale at.stands.rig_is) c.in_err-play_answer-2.ensures.idle)
+    (c.in_err-play_answer-2.ensures.ends at.replay at.stands.rig_is) c.in_err-play_answer-2.ensures.idle)
 
 pub returns-in_err-play_answer-2-clause-cause : goal.returns-in_err-play_answer-2-clause-cause
 returns-in_err-play_answer-2-clause-cause g c =
@@ -61,7 +61,7 @@ events-preserved g c = record {
   first = λ s held e.
       let at = awaits_next _ _ _ _ _ _ _ _ c.next-next.result (c.events.invariant.first s held e)
       c.next-next.ensures.takes c.next-next.ensures.version (c.next-next.ensures.stop c.events.invariant.ready) in
-      played_on _ _ _ _ _ _ _ _ _ _ _ at (c.in_ok-play_answer-2.ensures.ok at.tale at.stands.rig_is)
+      played_on _ _ _ _ _ _ _ _ _ _ _ at (c.in_ok-play_answer-2.ensures.ok at.replay at.stands.rig_is)
       (omega (arith, c.events-test.true, c.ranges.n.fits));
   ready = answered c.next-next.result _ c.in_ok-play_answer-2.ensures.answered c.next-next.ensures.keeps.runs_on;
   few = let less = answered c.next-next.result _ c.in_ok-play_answer-2.ensures.answered c.next-next.ensures.forward in

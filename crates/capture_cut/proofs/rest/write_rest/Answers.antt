@@ -6,7 +6,7 @@ use Rattle.capture_cut.proofs.rest.write_rest.Goals as goal
 pub events-init : goal.events-init
 events-init g c = record {
   came = λ cut before heard steps rig came.
-      comes_first _ _ _ _ _ _ _ _ refl c.new.ensures c.place-since.ensures
+      comes_first _ _ _ _ _ _ _ _ refl c.new.ensures c.offset-since.ensures
       c.from-number.ensures came;
   ready = c.requires.ready.goes_on;
   fits = c.requires.room;
@@ -19,7 +19,7 @@ pub events-preserved : goal.events-preserved
 events-preserved g c = record {
   came = λ cut before heard steps rig first.
       let at = c.events.invariant.came cut before heard steps rig first in
-      let paused = pauses_on _ _ _ _ _ c.events.draft c.write_at_pause.new.gathered _ c.in-Ok.place _
+      let paused = pauses_on _ _ _ _ _ c.events.draft c.write_at_pause.new.buffered _ c.in-Ok.offset _
       (g.K.Sink.held c.write_at_pause.new.out) at c.in-Ok.ensures.ok in
       came_on _ _ _ _ _ _ _ _ paused.comes _ _ _ paused.near c.in-Ok-next.event
       c.in-Ok-next.ensures.takes c.in-Ok-next.ensures.version _ c.put_record.new.draft refl
@@ -42,7 +42,7 @@ returns-in-Err-clause-ends g c = λ cut before heard steps rig first.
 pub returns-in-Err-put_record-clause-ends : goal.returns-in-Err-put_record-clause-ends
 returns-in-Err-put_record-clause-ends g c = λ cut before heard steps rig first.
     let at = c.events.invariant.came cut before heard steps rig first in
-    let paused = pauses_on _ _ _ _ _ c.events.draft c.write_at_pause.new.gathered _ c.in-Ok.place _
+    let paused = pauses_on _ _ _ _ _ c.events.draft c.write_at_pause.new.buffered _ c.in-Ok.offset _
     (g.K.Sink.held c.write_at_pause.new.out) at c.in-Ok.ensures.ok in
     record_ends _ _ _ _ _ _ _ _ paused.comes _ _ _ paused.near c.in-Ok-next.event
     c.in-Ok-next.ensures.takes c.in-Ok-next.ensures.version _ c.in-Err-put_record.ending refl
@@ -51,7 +51,7 @@ returns-in-Err-put_record-clause-ends g c = λ cut before heard steps rig first.
 pub returns-in-Err-next-clause-ends : goal.returns-in-Err-next-clause-ends
 returns-in-Err-next-clause-ends g c = λ cut before heard steps rig first.
     let at = c.events.invariant.came cut before heard steps rig first in
-    let paused = pauses_on _ _ _ _ _ c.events.draft c.write_at_pause.new.gathered _ c.in-Ok.place _
+    let paused = pauses_on _ _ _ _ _ c.events.draft c.write_at_pause.new.buffered _ c.in-Ok.offset _
     (g.K.Sink.held c.write_at_pause.new.out) at c.in-Ok.ensures.ok in
     reading_ends _ _ _ _ _ _ _ _ paused.comes _ _ _ paused.near c.in-Err-next.stop
     (c.in-Err-next.ensures.stop c.events.invariant.ready) _ c.end_reading.result refl c.end_reading.ensures.ends

@@ -9,6 +9,6 @@ abbrev pub invariant-loop-word : goal.invariant-loop-word
 invariant-loop-word g l = record {
   done : List Piece;
   are : record_pieces l.played l.words ≡ done ++ record_pieces l.number (drop l.word-index l.words);
-  put : ArePut done (holding (g.K.Sink.held l.fn.out) l.fn.gathered) (holding (g.K.Sink.held l.out) l.gathered);
+  put : ArePut done (holding (g.K.Sink.held l.fn.out) l.fn.buffered) (holding (g.K.Sink.held l.out) l.buffered);
   faults : g.K.Sink.faults l.fn.out ≤ g.K.Sink.faults l.out;
 }

@@ -16,12 +16,13 @@ returns-in-Err-clause-ends g c = λ t e. (
 pub returns-then-after-gt-LIMIT-clause-ends : goal.returns-then-after-gt-LIMIT-clause-ends
 returns-then-after-gt-LIMIT-clause-ends g c = λ t e.
     let mid = stands_same t c.args.rig.now c.asked.new.self c.asked.ensures.unchanged e in
-    let plays = plays_flat t c.args.rig.now c.asked.new.self c.event.new.self c.args.event.now c.in-Ok.work
+    let plays = plays_flat t c.args.rig.now c.asked.new.self c.event.new.self c.args.event.now c.in-Ok.operation
     c.in-Ok-event.field-0 _ _ c.ram-ram.result.now
     e c.asked.ensures.unchanged (sym c.in-Ok.is ∙ c.asked.ensures.value)
     (c.in-Ok-event.ensures.stepped t.state mid.state) c.in-Ok-event.ensures.played
     c.ram-ram.ensures c.allowed.ensures in
-    let due = due_known c.args.draft.now.file.version t c.args.rig.now c.event.new.self c.args.event.now c.in-Ok.work
+    let due = due_known c.args.draft.now.file.version t c.args.rig.now c.event.new.self c.args.event.now
+    c.in-Ok.operation
     _ _ c.played-played.result c.ram-ram.result.now
     e (sym c.in-Ok.is ∙ c.asked.ensures.value) plays c.played-played.ensures c.ram-ram.ensures in (
       number_is t _ c.played-played.result _ e c.played-played.ensures c.saturating_add-number.ensures,
@@ -36,12 +37,13 @@ returns-then-after-gt-LIMIT-clause-ends g c = λ t e.
 pub returns-in-Ok-put_due-clause-ok : goal.returns-in-Ok-put_due-clause-ok
 returns-in-Ok-put_due-clause-ok g c = λ t e.
     let mid = stands_same t c.args.rig.now c.asked.new.self c.asked.ensures.unchanged e in
-    let plays = plays_flat t c.args.rig.now c.asked.new.self c.event.new.self c.args.event.now c.in-Ok.work
+    let plays = plays_flat t c.args.rig.now c.asked.new.self c.event.new.self c.args.event.now c.in-Ok.operation
     c.in-Ok-event.field-0 _ _ c.ram-ram.result.now
     e c.asked.ensures.unchanged (sym c.in-Ok.is ∙ c.asked.ensures.value)
     (c.in-Ok-event.ensures.stepped t.state mid.state) c.in-Ok-event.ensures.played
     c.ram-ram.ensures c.allowed.ensures in
-    let due = due_known c.args.draft.now.file.version t c.args.rig.now c.event.new.self c.args.event.now c.in-Ok.work
+    let due = due_known c.args.draft.now.file.version t c.args.rig.now c.event.new.self c.args.event.now
+    c.in-Ok.operation
     _ _ c.played-played.result c.ram-ram.result.now
     e (sym c.in-Ok.is ∙ c.asked.ensures.value) plays c.played-played.ensures c.ram-ram.ensures in
     let number = ap next_number (c.played-played.ensures ∙ sym e.played) in
@@ -56,12 +58,13 @@ returns-in-Ok-put_due-clause-ok g c = λ t e.
 pub returns-in-Err-put_due-clause-ends : goal.returns-in-Err-put_due-clause-ends
 returns-in-Err-put_due-clause-ends g c = λ t e.
     let mid = stands_same t c.args.rig.now c.asked.new.self c.asked.ensures.unchanged e in
-    let plays = plays_flat t c.args.rig.now c.asked.new.self c.event.new.self c.args.event.now c.in-Ok.work
+    let plays = plays_flat t c.args.rig.now c.asked.new.self c.event.new.self c.args.event.now c.in-Ok.operation
     c.in-Ok-event.field-0 _ _ c.ram-ram.result.now
     e c.asked.ensures.unchanged (sym c.in-Ok.is ∙ c.asked.ensures.value)
     (c.in-Ok-event.ensures.stepped t.state mid.state) c.in-Ok-event.ensures.played
     c.ram-ram.ensures c.allowed.ensures in
-    let due = due_known c.args.draft.now.file.version t c.args.rig.now c.event.new.self c.args.event.now c.in-Ok.work
+    let due = due_known c.args.draft.now.file.version t c.args.rig.now c.event.new.self c.args.event.now
+    c.in-Ok.operation
     _ _ c.played-played.result c.ram-ram.result.now
     e (sym c.in-Ok.is ∙ c.asked.ensures.value) plays c.played-played.ensures c.ram-ram.ensures in
     let number = ap next_number (c.played-played.ensures ∙ sym e.played) in

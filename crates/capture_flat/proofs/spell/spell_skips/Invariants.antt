@@ -8,5 +8,5 @@ use Rattle.capture_flat.proofs.spell.spell_skips.Given as goal
 
 abbrev pub invariant-loop-i : goal.invariant-loop-i
 invariant-loop-i g l = HasPut (piece l.number (spell (replicate l.i Skip)))
-    (sink_state g.K.Sink.held g.K.Sink.faults l.initial.out l.initial.gathered)
-    (sink_state g.K.Sink.held g.K.Sink.faults l.out l.gathered)
+    (sink_state g.K.Sink.held g.K.Sink.faults l.initial.out l.initial.buffered)
+    (sink_state g.K.Sink.held g.K.Sink.faults l.out l.buffered)

@@ -11,8 +11,8 @@ abbrev pub invariant-words : goal.invariant-words
 invariant-words g l = record {
   done : List Event;
   are : map Gp0 l.fn.words ≡ done ++ map Gp0 l.left;
-  put : HasPut (piece l.number (spell done)) (sink_state g.K.Sink.held g.K.Sink.faults l.initial.out l.initial.gathered)
-      (sink_state g.K.Sink.held g.K.Sink.faults l.out l.gathered);
+  put : HasPut (piece l.number (spell done)) (sink_state g.K.Sink.held g.K.Sink.faults l.initial.out l.initial.buffered)
+      (sink_state g.K.Sink.held g.K.Sink.faults l.out l.buffered);
 }
 
 abbrev pub decreases-words : goal.decreases-words

@@ -21,7 +21,7 @@ events-init g c =
     record {
       awaits = λ s e.
           starts s _ _ _ _ _ _ _ _ c.version-version.result c.first_draft-draft.result c.next-next.result
-          c.new-reader.ensures.start c.first_draft-draft.ensures.file c.first_draft-draft.ensures.gathered
+          c.new-reader.ensures.start c.first_draft-draft.ensures.file c.first_draft-draft.ensures.buffered
           (c.raise.ensures (from_state s 0) (record { state = e; played = sym c.requires }))
           c.version-version.ensures.value
           c.next-next.ensures.takes c.next-next.ensures.version (c.next-next.ensures.stop c.new-reader.ensures.stop);
@@ -38,8 +38,8 @@ returns-in-Err-pass_event-clause-ends g c = λ s e.
     let at = c.events.invariant.awaits s e in
     let takes = takes_is _ _ _ _ _ _ c.in-Ok.is at.answer in
     event_ends _ _ _ _ _ _ _ _ _ _ _ _ _ at.was at.near c.in-Ok.event takes.0 at.same takes.1
-    c.pass_event.new.draft (g.K.Sink.held c.end_behind.new.out) c.in-Err-pass_event.ending c.end_behind.result
-    (c.in-Err-pass_event.ensures.ends at.was.tale at.was.stands) c.end_behind.ensures.ends
+    c.pass_event.new.draft (g.K.Sink.held c.end_after.new.out) c.in-Err-pass_event.ending c.end_after.result
+    (c.in-Err-pass_event.ensures.ends at.was.replay at.was.stands) c.end_after.ensures.ends
 
 pub returns-in-Err-write_at_pause-clause-ends : goal.returns-in-Err-write_at_pause-clause-ends
 returns-in-Err-write_at_pause-clause-ends g c = λ s e.
@@ -47,18 +47,18 @@ returns-in-Err-write_at_pause-clause-ends g c = λ s e.
     let takes = takes_is _ _ _ _ _ _ c.in-Ok.is at.answer in
     pause_lacks _ _ _ _ _ _ _ _ _ _ _ _ _ at.was at.near c.in-Ok.event takes.0 at.same takes.1
     c.pass_event.new.draft (g.K.Sink.held c.write_at_pause.new.out) c.in-Err-write_at_pause.event
-    (c.in-Ok-pass_event.ensures.ok at.was.tale at.was.stands) c.in-Err-write_at_pause.ensures.failed
+    (c.in-Ok-pass_event.ensures.ok at.was.replay at.was.stands) c.in-Err-write_at_pause.ensures.failed
 
 pub returns-in-Err-pass_words-clause-ends : goal.returns-in-Err-pass_words-clause-ends
 returns-in-Err-pass_words-clause-ends g c = λ s e.
     let at = c.events.invariant.awaits s e in
     let takes = takes_is _ _ _ _ _ _ c.in-Ok.is at.answer in
     let draft : Draft = c.pass_event.new.draft in
-    let is : Draft = record { file = draft.file; gathered = c.write_at_pause.new.gathered } in
-    let passed = c.in-Ok-pass_event.ensures.ok at.was.tale at.was.stands in
+    let is : Draft = record { file = draft.file; buffered = c.write_at_pause.new.buffered } in
+    let passed = c.in-Ok-pass_event.ensures.ok at.was.replay at.was.stands in
     let counts = passed.plays.played in
     let goes = event_goes _ _ _ _ _ _ _ _ _ _ _ _ _ at.was at.near c.in-Ok.event takes.0 at.same takes.1 draft is
-    c.in-Ok-write_at_pause.place (g.K.Sink.held c.write_at_pause.new.out) passed refl
+    c.in-Ok-write_at_pause.offset (g.K.Sink.held c.write_at_pause.new.out) passed refl
     c.in-Ok-write_at_pause.ensures.ok in
     let read = c.words-read.ensures in
     let few = read.few in
@@ -79,11 +79,11 @@ returns-in-Err-read-clause-ends g c = λ s e.
     let at = c.events.invariant.awaits s e in
     let takes = takes_is _ _ _ _ _ _ c.in-Ok.is at.answer in
     let draft : Draft = c.pass_event.new.draft in
-    let is : Draft = record { file = draft.file; gathered = c.write_at_pause.new.gathered } in
-    let passed = c.in-Ok-pass_event.ensures.ok at.was.tale at.was.stands in
+    let is : Draft = record { file = draft.file; buffered = c.write_at_pause.new.buffered } in
+    let passed = c.in-Ok-pass_event.ensures.ok at.was.replay at.was.stands in
     let counts = passed.plays.played in
     let goes = event_goes _ _ _ _ _ _ _ _ _ _ _ _ _ at.was at.near c.in-Ok.event takes.0 at.same takes.1 draft is
-    c.in-Ok-write_at_pause.place (g.K.Sink.held c.write_at_pause.new.out) passed refl
+    c.in-Ok-write_at_pause.offset (g.K.Sink.held c.write_at_pause.new.out) passed refl
     c.in-Ok-write_at_pause.ensures.ok in
     let read = c.words-read.ensures in
     let few = read.few in
@@ -107,11 +107,11 @@ returns-in-Err-write_at_pause-2-clause-ends g c = λ s e.
     let at = c.events.invariant.awaits s e in
     let takes = takes_is _ _ _ _ _ _ c.in-Ok.is at.answer in
     let draft : Draft = c.pass_event.new.draft in
-    let is : Draft = record { file = draft.file; gathered = c.write_at_pause.new.gathered } in
-    let passed = c.in-Ok-pass_event.ensures.ok at.was.tale at.was.stands in
+    let is : Draft = record { file = draft.file; buffered = c.write_at_pause.new.buffered } in
+    let passed = c.in-Ok-pass_event.ensures.ok at.was.replay at.was.stands in
     let counts = passed.plays.played in
     let goes = event_goes _ _ _ _ _ _ _ _ _ _ _ _ _ at.was at.near c.in-Ok.event takes.0 at.same takes.1 draft is
-    c.in-Ok-write_at_pause.place (g.K.Sink.held c.write_at_pause.new.out) passed refl
+    c.in-Ok-write_at_pause.offset (g.K.Sink.held c.write_at_pause.new.out) passed refl
     c.in-Ok-write_at_pause.ensures.ok in
     let read = c.words-read.ensures in
     let few = read.few in
@@ -199,11 +199,11 @@ events-preserved g c =
           let at = c.events.invariant.awaits s e in
           let takes = takes_is _ _ _ _ _ _ c.in-Ok.is at.answer in
           let draft : Draft = c.pass_event.new.draft in
-          let is : Draft = record { file = draft.file; gathered = c.write_at_pause.new.gathered } in
-          let passed = c.in-Ok-pass_event.ensures.ok at.was.tale at.was.stands in
+          let is : Draft = record { file = draft.file; buffered = c.write_at_pause.new.buffered } in
+          let passed = c.in-Ok-pass_event.ensures.ok at.was.replay at.was.stands in
           let counts = passed.plays.played in
           let goes = event_goes _ _ _ _ _ _ _ _ _ _ _ _ _ at.was at.near c.in-Ok.event takes.0 at.same takes.1 draft is
-          c.in-Ok-write_at_pause.place (g.K.Sink.held c.write_at_pause.new.out) passed refl
+          c.in-Ok-write_at_pause.offset (g.K.Sink.held c.write_at_pause.new.out) passed refl
           c.in-Ok-write_at_pause.ensures.ok in
           let joined : GoesOn (from_state s 0) c.version-version.result
           (streams (g.S.Source.left c.args.source.now) (g.K.Sink.held c.args.out.now)
@@ -214,8 +214,8 @@ events-preserved g c =
           elim c.if-most-gt0.branch [
             | then-most-gt0+in_default+in_default-read+in-Ok-write_at_pause-2 w ↦
                 let after : Draft = w.pass_words.new.draft in
-                let pieces = w.write_at_pause-then-most-gt0.new.gathered in
-                let last : Draft = record { file = after.file; gathered = pieces } in
+                let pieces = w.write_at_pause-then-most-gt0.new.buffered in
+                let last : Draft = record { file = after.file; buffered = pieces } in
                 let read = w.words-read.ensures in
                 let few = read.few in
                 let fits = c.words_at_once-most.ensures.fits in
@@ -228,7 +228,7 @@ events-preserved g c =
                 (omega (arith, few, fits, count)) w.pass_words.new.draft (g.K.Sink.held w.pass_words.new.out)
                 (rw w.as_slice-words.ensures at w.pass_words.ensures.file) _ w.in_default.field-0
                 (rw w.as_slice-words.ensures at w.in_default.ensures.puts) w.in_default-read.ensures.takes last
-                w.in-Ok-write_at_pause-2.place (g.K.Sink.held w.write_at_pause-then-most-gt0.new.out) refl
+                w.in-Ok-write_at_pause-2.offset (g.K.Sink.held w.write_at_pause-then-most-gt0.new.out) refl
                 w.in-Ok-write_at_pause-2.ensures.ok)
             | else-most-gt0 w ↦
                 rw (w.rig-is, w.source-is, w.out-is, w.taps-is, w.steps-is, w.reader-is, w.draft-is, w.since-is) goes

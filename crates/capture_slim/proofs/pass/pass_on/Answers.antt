@@ -8,7 +8,7 @@ use Rattle.capture_slim.proofs.pass.pass_on.Goals as goal
 pub events-init : goal.events-init
 events-init g c = record {
   awaits = starts _ _ _ _ _ _ c.max-version.result c.first_draft-draft.result c.next-next.result
-      c.first_draft-draft.ensures.file c.first_draft-draft.ensures.gathered c.new-reader.ensures.start c.raise.ensures
+      c.first_draft-draft.ensures.file c.first_draft-draft.ensures.buffered c.new-reader.ensures.start c.raise.ensures
       (omega (arith, c.max-version.ensures, c.version.ensures.value)) c.next-next.ensures.takes
       c.next-next.ensures.version (c.next-next.ensures.stop c.new-reader.ensures.stop);
   file =
@@ -61,9 +61,9 @@ events-preserved g c =
       awaits = goes_on _ _ _ _ _ _ _ _ c.in-Ok.event at c.next-next-in-Ok.new.self.progress
           (g.S.Source.left c.next-next-in-Ok.new.source) (g.K.Sink.held c.write_at_pause.new.out)
           (g.S.Source.faults c.next-next-in-Ok.new.source)
-          c.take_event.new.window _ c.in-Ok-write_at_pause.place c.next-next-in-Ok.result
+          c.take_event.new.window _ c.in-Ok-write_at_pause.offset c.next-next-in-Ok.result
           (paused_on _ _ _ _ _ _ _ _ c.in-Ok.event at c.take_event.new.window c.take_event.new.draft
-          c.write_at_pause.new.gathered c.in-Ok-write_at_pause.place (g.K.Sink.held c.take_event.new.out)
+          c.write_at_pause.new.buffered c.in-Ok-write_at_pause.offset (g.K.Sink.held c.take_event.new.out)
           (g.K.Sink.held c.write_at_pause.new.out) (c.in-Ok-take_event.ensures.ok _ at.came)
           (c.in-Ok-take_event.ensures.late _ at.least at.came at.from) c.in-Ok-write_at_pause.ensures.ok)
           c.next-next-in-Ok.ensures.takes c.next-next-in-Ok.ensures.version (c.next-next-in-Ok.ensures.stop running);

@@ -1,5 +1,5 @@
 use Rattle.std.proofs.Common.{◌≡◌, ◌+◌, ◌∙◌, length, ap, arith}
-use Rattle.gathered_out.proofs.Pieces.{only_gathered}
+use Rattle.gathered_out.proofs.Pieces.{only_buffered}
 use Rattle.capture_slim.specs.File.{due}
 use Rattle.capture_slim.proofs.Files.{added_draft, long_ends, out_draft}
 use Rattle.capture_slim.proofs.Late.{from_off, from_put}
@@ -25,7 +25,7 @@ pub returns-in-Ok-clause-ok : goal.returns-in-Ok-clause-ok
 returns-in-Ok-clause-ok g c = λ base outs is at.
     let file = c.args.draft.now.file in
     let held = g.K.Sink.held c.args.out.now in
-    let pieces = c.args.draft.now.gathered in
+    let pieces = c.args.draft.now.buffered in
     let long : length c.due_bytes-bytes.result.items ≡ length (due file c.args.event.now) =
     ap length c.due_bytes-bytes.ensures.value in
     let after = file.size + c.len.result in
@@ -33,25 +33,25 @@ returns-in-Ok-clause-ok g c = λ base outs is at.
     (omega (arith, long, c.len.ensures)) (omega (arith, c.if-after-gt-LIMIT.false)) in
     let bytes : c.as_slice.result.now ≡ due file c.args.event.now =
     c.as_slice.ensures.value ∙ c.due_bytes-bytes.ensures.value in
-    let out = rw bytes at (c.in-Ok.ensures.ok held pieces (only_gathered held pieces)) in
+    let out = rw bytes at (c.in-Ok.ensures.ok held pieces (only_buffered held pieces)) in
     out_draft _ _ c.put.new.self base held (g.K.Sink.held c.put.new.out) _ added out
 
 pub returns-in-Err-clause-ends : goal.returns-in-Err-clause-ends
 returns-in-Err-clause-ends g c = λ base outs is at.
     let held = g.K.Sink.held c.args.out.now in
-    let pieces = c.args.draft.now.gathered in
-    is.lacks _ _ (c.in-Err.ensures.failed held pieces (only_gathered held pieces))
+    let pieces = c.args.draft.now.buffered in
+    is.lacks _ _ (c.in-Err.ensures.failed held pieces (only_buffered held pieces))
 
 pub returns-in-Ok-clause-late : goal.returns-in-Ok-clause-late
 returns-in-Ok-clause-late g c = λ least from at.
     let held = g.K.Sink.held c.args.out.now in
-    let pieces = c.args.draft.now.gathered in
+    let pieces = c.args.draft.now.buffered in
     from_put least held (g.K.Sink.held c.put.new.out) pieces c.put.new.self _ from at
-    (c.in-Ok.ensures.ok held pieces (only_gathered held pieces))
+    (c.in-Ok.ensures.ok held pieces (only_buffered held pieces))
 
 pub returns-in-Err-clause-late : goal.returns-in-Err-clause-late
 returns-in-Err-clause-late g c = λ least from at.
     let held = g.K.Sink.held c.args.out.now in
-    let pieces = c.args.draft.now.gathered in
+    let pieces = c.args.draft.now.buffered in
     from_off least pieces held (g.K.Sink.held c.put.new.out) c.in-Err.event from
-    (c.in-Err.ensures.failed held pieces (only_gathered held pieces))
+    (c.in-Err.ensures.failed held pieces (only_buffered held pieces))

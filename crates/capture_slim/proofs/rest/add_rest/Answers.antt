@@ -12,14 +12,14 @@ returns-in-Err-clause-ends g c = λ base outs is all_count.
     let all = waiting c.args.window.now in
     let closed_long = ap (λ (w : Window). length w.slots + length w.words) c.close.ensures in
     let number = c.args.count - c.len-left.result + c.slots.i + 1 in
-    let place : number ≡ length (outs ++ all_left at.done) + 1 =
+    let position : number ≡ length (outs ++ all_left at.done) + 1 =
     omega (arith, all_left_long outs at.done, at.counted, all_count, closed_long, c.len-left.ensures.value) in
     let now = g.K.Sink.held c.add_next.new.out in
     let P : ℕ → Type 0 = λ v. FailsRest (record { version = v; base = base; held = now }) outs (all_left all)
     c.in-Err.ending in
     subst P at.version
     (fails_slots (output_of c.slots.draft base now) outs all at.done c.slots.window.slots c.in-Err.ending at.are
-    (c.in-Err.ensures.ends base (outs ++ all_left at.done) (at.added base outs is all_count) place))
+    (c.in-Err.ensures.ends base (outs ++ all_left at.done) (at.added base outs is all_count) position))
 
 pub slots-preserved : goal.slots-preserved
 slots-preserved g c =
@@ -34,12 +34,12 @@ slots-preserved g c =
       are = next.are ∙ ap (λ (w : Window). (at.done ++ next.next ∷ []) ++ w.slots) (sym c.add_next.ensures.window);
       counted = omega (arith, next.counted, at.counted);
       added = λ base outs is all_count.
-          let place : number ≡ length (outs ++ all_left at.done) + 1 =
+          let position : number ≡ length (outs ++ all_left at.done) + 1 =
           omega (arith, all_left_long outs at.done, at.counted, all_count, closed_long, c.len-left.ensures.value) in
           let P : List (Option Event)
           → Type 0 = λ os. IsDraft c.add_next.new.draft base (g.K.Sink.held c.add_next.new.out) os in
           subst P (next.placed outs)
-          (c.in-Ok.ensures.ok base (outs ++ all_left at.done) (at.added base outs is all_count) place);
+          (c.in-Ok.ensures.ok base (outs ++ all_left at.done) (at.added base outs is all_count) position);
       late = λ least from.
           c.in-Ok.ensures.late least (at.late least from)
           (omega (arith, from.later, closed_long, c.len-left.ensures.value));

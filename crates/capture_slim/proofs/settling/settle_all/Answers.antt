@@ -18,8 +18,8 @@ turn-requires-clause-fits c =
       capacity,
       c.requires.fits,
       length-append (drop c.loop-i.i init)
-          (settled_by done (length init - c.loop-i.i + c.args.behind) c.args.saying.now),
-      settled_by_long done (length init - c.loop-i.i + c.args.behind) c.args.saying.now,
+          (settled_by done (length init - c.loop-i.i + c.args.after) c.args.effect.now),
+      settled_by_long done (length init - c.loop-i.i + c.args.after) c.args.effect.now,
       length-drop c.loop-i.i init,
       length-take c.loop-i.i init,
     )
@@ -27,12 +27,12 @@ turn-requires-clause-fits c =
 pub loop-i-preserved : goal.loop-i-preserved
 loop-i-preserved c =
     let init = c.args.slots.now.items in
-    let age = c.len-count.result - 1 - c.loop-i.i + c.args.behind in
+    let age = c.len-count.result - 1 - c.loop-i.i + c.args.after in
     record {
       slots = c.turn.ensures
-          ∙ ap (λ (b : Buffer Slot). buffer (turned b.items age c.args.saying.now) b.capacity) c.loop-i.invariant.slots
+          ∙ ap (λ (b : Buffer Slot). buffer (turned b.items age c.args.effect.now) b.capacity) c.loop-i.invariant.slots
           ∙ ap (λ (l : List Slot). buffer l c.args.slots.now.capacity)
-          (turned_next init c.loop-i.i c.args.behind age c.args.saying.now
+          (turned_next init c.loop-i.i c.args.after age c.args.effect.now
           (omega (arith, c.loop-i-test.true, c.len-count.ensures.len))
           (omega (arith, c.len-count.ensures.len, c.loop-i-test.true)));
     }

@@ -8,5 +8,5 @@ abbrev pub invariant-loop-i : goal.invariant-loop-i
 invariant-loop-i l = record {
   slots : l.slots
       ≡ buffer (drop l.i l.initial.slots.items ++ settled_by (take l.i l.initial.slots.items)
-      (length l.initial.slots.items - l.i + l.behind) l.saying) l.initial.slots.capacity;
+      (length l.initial.slots.items - l.i + l.after) l.effect) l.initial.slots.capacity;
 }

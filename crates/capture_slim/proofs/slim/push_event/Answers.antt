@@ -36,32 +36,32 @@ returns-in-Some-clause-ok g c = λ passed came.
     let left = ap (λ (o : Option Event). option_to_list o) (sym c.in-Some.is) ∙ c.push.ensures.left in
     let one = leaves_one _ _ _ _ _ came c.args.event c.push.new.self c.push.ensures.now c.requires.port
     c.holds_words.ensures c.in-Some.left c.len.result left c.len.ensures.value c.len.ensures.few in
-    let place = number_is _ _ _ _ _ came c.args.event c.push.new.self c.push.ensures.now c.requires.port
+    let position = number_is _ _ _ _ _ came c.args.event c.push.new.self c.push.ensures.now c.requires.port
     c.holds_words.ensures c.in-Some.left c.len.result left c.len.ensures.value c.len.ensures.few in
     let P : List (Option Event) → Type 0 = λ more. IsDraft c.add_record.new.draft passed.base now
     (gone _ _ _ _ _ came ++ more) in
     on_ok_weaker c.add_record.result
     (λ is. comes _ _ _ _ _ came c.args.event c.push.new.self c.push.ensures.now c.requires.port c.holds_words.ensures
     c.add_record.new.draft now c.add_record.ensures.version (subst P (sym one) is))
-    (c.add_record.ensures.ok passed.base (gone _ _ _ _ _ came) came.draft_is place)
+    (c.add_record.ensures.ok passed.base (gone _ _ _ _ _ came) came.draft_is position)
 
 pub returns-in-Some-clause-ends : goal.returns-in-Some-clause-ends
 returns-in-Some-clause-ends g c = λ passed came.
     let left = ap (λ (o : Option Event). option_to_list o) (sym c.in-Some.is) ∙ c.push.ensures.left in
-    let place = number_is _ _ _ _ _ came c.args.event c.push.new.self c.push.ensures.now c.requires.port
+    let position = number_is _ _ _ _ _ came c.args.event c.push.new.self c.push.ensures.now c.requires.port
     c.holds_words.ensures c.in-Some.left c.len.result left c.len.ensures.value c.len.ensures.few in
     IfErr-weaker c.add_record.result _ _
     (now_fails _ _ _ _ _ came c.args.event c.push.new.self c.push.ensures.now c.requires.port c.holds_words.ensures
     c.in-Some.left c.len.result left c.len.ensures.value c.len.ensures.few (g.K.Sink.held c.add_record.new.out))
-    (c.add_record.ensures.ends passed.base (gone _ _ _ _ _ came) came.draft_is place)
+    (c.add_record.ensures.ends passed.base (gone _ _ _ _ _ came) came.draft_is position)
 
 pub returns-in-None-clause-late : goal.returns-in-None-clause-late
-returns-in-None-clause-late g c = λ passed least came from. from.gathered
+returns-in-None-clause-late g c = λ passed least came from. from.buffered
 
 pub returns-in-Some-clause-late : goal.returns-in-Some-clause-late
 returns-in-Some-clause-late g c = λ passed least came from.
     let left = ap (λ (o : Option Event). option_to_list o) (sym c.in-Some.is) ∙ c.push.ensures.left in
-    let place = number_is _ _ _ _ _ came c.args.event c.push.new.self c.push.ensures.now c.requires.port
+    let position = number_is _ _ _ _ _ came c.args.event c.push.new.self c.push.ensures.now c.requires.port
     c.holds_words.ensures c.in-Some.left c.len.result left c.len.ensures.value c.len.ensures.few in
-    c.add_record.ensures.late least from.gathered
-    (omega (arith, place, counted _ _ _ _ _ came, from.later))
+    c.add_record.ensures.late least from.buffered
+    (omega (arith, position, counted _ _ _ _ _ came, from.later))

@@ -1,13 +1,13 @@
 use Rattle.std.proofs.Common.{◌≤◌, ◌-◌, length, map, take}
 use Rattle.event_play.specs.PlayedWords.{IsTold, after_words}
-use Rattle.event_play.specs.Replay.{Tale}
+use Rattle.event_play.specs.Replay.{Replay}
 use Rattle.event_play.specs.Streams.{Outlets, without_sink}
 use Rattle.event_play.proofs.feed.feed_events.Given as goal
 
 abbrev pub invariant-words : goal.invariant-words
 invariant-words g l = record {
   within : l.at ≤ length l.words;
-  told : (t : Tale) (first : Outlets)
+  told : (t : Replay) (first : Outlets)
       → IsTold t first (without_sink (map g.T.Listener.heard l.initial.taps.items) l.initial.steps) l.initial.gpu
       l.played
       → IsTold (after_words t (take l.at l.words)) first

@@ -26,7 +26,7 @@ returns-clause-feeds g c =
           (fed.feed s e) (fed.note s e) c.seen_cell-before.ensures.value c.seen_cell-after.ensures.value)
           c.put_changed.ensures.puts;
       kept = inl tt;
-      gathers = on_err_weaker c.put_changed.result (λ part. tt) c.put_changed.ensures.puts.cause;
+      buffers = on_err_weaker c.put_changed.result (λ part. tt) c.put_changed.ensures.puts.cause;
       cause = c.put_changed.ensures.puts.cause;
       faults = c.put_changed.ensures.puts.faults;
     }

@@ -1,7 +1,7 @@
 use Rattle.std.proofs.Common.{◌≡◌, ℕ, ◌+◌, take, length, ap, ◌∙◌, subst, map, arith}
 use Rattle.std.proofs.lemmas.List.{length-take-le}
 use Rattle.gpu_core.specs.Feeds.{but_pixels, feed_notes}
-use Rattle.event_play.specs.PlayedWords.{IsTold, after_words, number_behind}
+use Rattle.event_play.specs.PlayedWords.{IsTold, after_words, number_after}
 use Rattle.event_play.specs.Streams.{without_sink}
 use Rattle.event_play.proofs.AtOnce.{words_told}
 use Rattle.event_play.proofs.Listed.{notes_fed}
@@ -15,7 +15,7 @@ returns-clause-told g c = λ t first told.
     length-take-le count c.args.words.now (let le = c.take_noted.ensures.within in omega (arith, le)) in
     let Q : ℕ → Type 0 = λ count. IsTold (after_words t words) first
     (without_sink (map g.T.Listener.heard c.take_noted.new.taps.items) c.take_noted.new.steps) c.take_noted.new.self
-    (number_behind c.args.played count) in
+    (number_after c.args.played count) in
     subst Q long
     (words_told t first _ _ c.args.gpu.now c.take_noted.new.self c.args.played words
     (omega (arith, c.ranges.played.fits)) told

@@ -30,8 +30,8 @@ returns-in-Err-clause-puts g c = λ t first told.
     let le = c.words.invariant.within in
     let within = c.feed_noted-fed.ensures.within in
     let before = c.words.invariant.told t first told in
-    let was = holding (g.K.Sink.held c.args.lines.now.out.now) c.args.lines.now.gathered.now in
-    let now = holding (g.K.Sink.held c.put_noted.new.lines.out.now) c.put_noted.new.lines.gathered.now in
+    let was = holding (g.K.Sink.held c.args.lines.now.out.now) c.args.lines.now.buffered.now in
+    let now = holding (g.K.Sink.held c.put_noted.new.lines.out.now) c.put_noted.new.lines.buffered.now in
     let P : List Piece → Type 0 = λ pieces. PutsPieces {Value = Unit {0}} pieces was now (Err c.in-Err.lacking) in
     fails_on was now t (take (at + count) words) _ words c.in-Err.lacking
     (rest_both words (at + count) (let long = length-drop at words in omega (arith, le, within, long)))
@@ -58,8 +58,8 @@ words-preserved g c =
           (c.words.invariant.told t first told));
       puts = λ t first told.
           let before = c.words.invariant.told t first told in
-          let was = holding (g.K.Sink.held c.args.lines.now.out.now) c.args.lines.now.gathered.now in
-          let now = holding (g.K.Sink.held c.put_noted.new.lines.out.now) c.put_noted.new.lines.gathered.now in
+          let was = holding (g.K.Sink.held c.args.lines.now.out.now) c.args.lines.now.buffered.now in
+          let now = holding (g.K.Sink.held c.put_noted.new.lines.out.now) c.put_noted.new.lines.buffered.now in
           let P : List Piece → Type 0 = λ pieces. ArePut pieces was now in
           subst P
           (pieces_on t (take at words) (take count (take (length words - at) (drop at words)))
@@ -69,6 +69,6 @@ words-preserved g c =
           (listed_pieces (option_to_list c.feed_noted-fed.result.note)) (Ok c.in_default.field-0)
           (c.words.invariant.puts t first told) c.in_default.ensures.puts).ok;
       faults = let a = c.words.invariant.faults in let b = c.in_default.ensures.faults in omega (arith, a, b);
-      gathered = c.in_default.ensures.gathered ∙ c.words.invariant.gathered;
+      buffered = c.in_default.ensures.buffered ∙ c.words.invariant.buffered;
       out = c.in_default.ensures.out ∙ c.words.invariant.out;
     }

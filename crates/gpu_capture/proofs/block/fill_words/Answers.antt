@@ -8,7 +8,7 @@ returns-then-n-bytes-clause-stop g c =
     let long = length-take-le c.in-Ok.n c.fill.new.buf (omega (arith, c.in-Ok.ensures.ok.fits)) in
     let lt = c.if-n-bytes.true in
     stops_short _ _ _ _ _ (take c.in-Ok.n c.fill.new.buf) c.in-Ok.ensures.ok.bytes c.read_words.ensures.takes
-    (length c.args.bytes.now) c.requires.can.may c.requires.whole (omega (arith, long, lt)) c.read_words.ensures.place
+    (length c.args.bytes.now) c.requires.can.may c.requires.whole (omega (arith, long, lt)) c.read_words.ensures.offset
     c.in-Ok.n long (c.in-Ok.ensures.ended lt)
 
 pub returns-else-n-bytes-clause-takes : goal.returns-else-n-bytes-clause-takes
@@ -28,5 +28,5 @@ returns-in-Err-clause-stop g c =
     stops_failed _ _ _ _ _ (take c.in-Err.n c.fill.new.buf) c.in-Err.ensures.failed.bytes
     c.read_words-in-Err.ensures.takes
     (length c.args.bytes.now) c.requires.can.may c.requires.whole
-    (omega (arith, long, lt)) c.read_words-in-Err.ensures.place
+    (omega (arith, long, lt)) c.read_words-in-Err.ensures.offset
     c.in-Err.n long

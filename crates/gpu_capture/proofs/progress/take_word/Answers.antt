@@ -1,7 +1,7 @@
 use Rattle.std.proofs.Common.{◌≡◌, ◌-◌, arith}
 use Rattle.std.proofs.lemmas.Result.{err_from_is_err_and}
 use Rattle.gpu_capture.specs.Reader.{work_left}
-use Rattle.gpu_capture.proofs.Steps.{gives_repeated, no_word_stops, opens_word, gives_word, word_stops, behind_less}
+use Rattle.gpu_capture.proofs.Steps.{gives_repeated, no_word_stops, opens_word, gives_word, word_stops, after_less}
 use Rattle.gpu_capture.proofs.progress.take_word.Goals as goal
 
 pub returns-then-progress-gt0-clause-takes : goal.returns-then-progress-gt0-clause-takes
@@ -20,25 +20,25 @@ returns-in_err-word-clause-stop g c =
 pub returns-in-Opens-clause-takes : goal.returns-in-Opens-clause-takes
 returns-in-Opens-clause-takes g c =
     let none : c.args.progress.now.left ≡ 0 = omega arith in
-    rw c.behind_word.ensures
+    rw c.progress_after_word.ensures
     (opens_word c.args.progress.now _ _ c.in_ok-word.word c.in-Opens.next c.requires.started none
     c.in_ok-word.ensures.word c.in-Opens.ensures.value)
 
 pub returns-in-Opens-clause-forward : goal.returns-in-Opens-clause-forward
-returns-in-Opens-clause-forward g c = rw c.behind_word.ensures
-    (behind_less c.args.progress.now c.in-Opens.next _ 0 c.in_ok-word.ensures.word.below_limit (omega arith))
+returns-in-Opens-clause-forward g c = rw c.progress_after_word.ensures
+    (after_less c.args.progress.now c.in-Opens.next _ 0 c.in_ok-word.ensures.word.below_limit (omega arith))
 
 pub returns-in-Gives-clause-takes : goal.returns-in-Gives-clause-takes
 returns-in-Gives-clause-takes g c =
     let none : c.args.progress.now.left ≡ 0 = omega arith in
-    rw c.behind_word-in-Gives.ensures
+    rw c.progress_after_word-in-Gives.ensures
     (gives_word c.args.progress.now _ _ c.in_ok-word.word c.in-Gives.event c.in-Gives.count c.in-Gives.next
     c.requires.started none c.in-Gives.ensures.bounds.1 c.in_ok-word.ensures.word c.in-Gives.ensures.value)
 
 pub returns-in-Gives-clause-forward : goal.returns-in-Gives-clause-forward
 returns-in-Gives-clause-forward g c = let few = c.in-Gives.ensures.bounds.2 in
-    rw c.behind_word-in-Gives.ensures
-    (behind_less c.args.progress.now c.in-Gives.next _ (c.in-Gives.count - 1) c.in_ok-word.ensures.word.below_limit
+    rw c.progress_after_word-in-Gives.ensures
+    (after_less c.args.progress.now c.in-Gives.next _ (c.in-Gives.count - 1) c.in_ok-word.ensures.word.below_limit
     (omega (arith, few)))
 
 pub returns-in-Closes-clause-stop : goal.returns-in-Closes-clause-stop

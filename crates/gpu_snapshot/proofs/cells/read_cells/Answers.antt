@@ -4,7 +4,7 @@ use Rattle.gpu_snapshot.proofs.cells.read_cells.Goals as goal
 
 pub returns-in-Err-clause-fault : goal.returns-in-Err-clause-fault
 returns-in-Err-clause-fault g c =
-    row_lacks _ _ _ c.rows.rig.gpu.parts.m c.args.place c.rows.y c.args.rows _
+    row_lacks _ _ _ c.rows.rig.gpu.parts.m c.args.offset c.rows.y c.args.rows _
     (omega (arith, c.requires.rows.all, c.rows.invariant.long)) c.rows-test.true c.rows.invariant.takes
     c.in-Err.ensures.fault
 

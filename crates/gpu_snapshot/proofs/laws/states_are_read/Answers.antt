@@ -8,7 +8,7 @@ returns c = λ s played rest is.
     let alike = restored_alike s played is in
     record {
       snapshot = snapshot_of s played;
-      place = _;
+      offset = _;
       opens = spelled_opens (snapshot_of s played) rest is;
       alike = record { gpu = sym alike.gpu; ram = refl; running = refl };
       played_is = refl;

@@ -4,7 +4,7 @@ use Rattle.gpu_snapshot.proofs.memory.read_words.Goals as goal
 
 pub returns-in-Err-clause-fault : goal.returns-in-Err-clause-fault
 returns-in-Err-clause-fault g c =
-    block_lacks _ _ _ c.all.rig.ram c.args.place c.all.b c.args.blocks _ c.all.invariant.long c.all-test.true
+    block_lacks _ _ _ c.all.rig.ram c.args.offset c.all.b c.args.blocks _ c.all.invariant.long c.all-test.true
     (omega (arith, c.requires.all, c.requires.long)) c.all.invariant.takes c.in-Err.ensures.fault
 
 pub all-preserved : goal.all-preserved

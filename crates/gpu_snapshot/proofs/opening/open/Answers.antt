@@ -7,7 +7,7 @@ returns-in-Ok-Capture-clause-opened g c =
     inl (opens_capture _ _ _ c.in-Ok-Capture.version c.set_profile.new.rig c.at.result
     (rw c.in-Ok-Capture.field-0-is at c.in-Ok-Capture.ensures.takes)
     (rw c.in-Ok-Capture.field-0-is at c.in-Ok-Capture.ensures.bounds)
-    c.at.ensures.place c.at.ensures.stop
+    c.at.ensures.offset c.at.ensures.stop
     (λ t stands. c.set_profile.ensures.stands t (rw c.requires.new stands)) c.set_profile.ensures.played)
 
 pub returns-in-Ok-clause-opened : goal.returns-in-Ok-clause-opened

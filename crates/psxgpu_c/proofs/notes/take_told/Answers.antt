@@ -26,7 +26,7 @@ words-preserved g c = record {
   told = λ s stands. noted_more _ c.args.words.now c.words.at c.words.rig _ _ _ _ _ _ _ (omega arith)
       (c.words.invariant.told s stands) (λ m here. (c.take_word-note.ensures.tells m here).stands)
       c.take_word-note.ensures.note c.put_note-count.ensures.count c.put_note-count.ensures.front
-      c.put_note-count.ensures.behind;
+      c.put_note-count.ensures.after;
 }
 
 pub returns : goal.returns

@@ -6,6 +6,6 @@ use Rattle.psxgpu_c.proofs.rgba.add_alpha.Goals as goal
 pub loop-k-preserved : goal.loop-k-preserved
 loop-k-preserved c = record {
   front = alpha_more _ _ _ c.loop-k.k _ c.loop-k.invariant.front c.put_pixel.ensures (omega arith) (omega arith);
-  behind = rw (drop-put_mid (4 * c.loop-k.k) (4 * c.loop-k.k + 4 - 4 * c.loop-k.k) c.loop-k.out c.put_pixel.new.out
-      (4 * c.args.count) (omega arith) (omega arith) (omega arith)) c.loop-k.invariant.behind;
+  after = rw (drop-put_mid (4 * c.loop-k.k) (4 * c.loop-k.k + 4 - 4 * c.loop-k.k) c.loop-k.out c.put_pixel.new.out
+      (4 * c.args.count) (omega arith) (omega arith) (omega arith)) c.loop-k.invariant.after;
 }

@@ -5,5 +5,5 @@ use Rattle.psxgpu_c.proofs.rgba.add_alpha.Given as goal
 abbrev pub invariant-loop-k : goal.invariant-loop-k
 invariant-loop-k l = record {
   front : take (4 * l.k) l.out ≡ with_alpha l.bytes l.k;
-  behind : drop (4 * l.count) l.out ≡ drop (4 * l.count) l.initial.out;
+  after : drop (4 * l.count) l.out ≡ drop (4 * l.count) l.initial.out;
 }

@@ -52,7 +52,7 @@ returns c =
       record {
         fits = rw long c.if-out-count.false;
         front = rw long (c.add_alpha.ensures.front ∙ ap (λ (bytes : List ℕ). with_alpha bytes count) last);
-        behind = rw long c.add_alpha.ensures.behind;
+        after = rw long c.add_alpha.ensures.after;
       },
       sym long,
     )

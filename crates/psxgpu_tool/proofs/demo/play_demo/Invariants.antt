@@ -1,5 +1,5 @@
 use Rattle.std.proofs.Common.{◌≡◌, ◌++◌, ℕ, List, map}
-use Rattle.event_play.specs.Replay.{Tale}
+use Rattle.event_play.specs.Replay.{Replay}
 use Rattle.event_play.specs.Streams.{Outlets, without_sink}
 use Rattle.psxgpu_tool.specs.Demo.{number_before, first_packets}
 use Rattle.psxgpu_tool.specs.Words.{HavePlayed}
@@ -8,7 +8,7 @@ use Rattle.psxgpu_tool.proofs.demo.play_demo.Given as goal
 abbrev pub invariant-loop-k : goal.invariant-loop-k
 invariant-loop-k g l = record {
   number : l.generator.number ≡ number_before l.packets l.k;
-  played : (first : Tale) (done : List ℕ) (start : Outlets)
+  played : (first : Replay) (done : List ℕ) (start : Outlets)
       → HavePlayed first done start (without_sink
       (map g.T.Listener.heard l.initial.taps.items) l.initial.steps) l.initial.rig
       → HavePlayed first (done ++ first_packets l.packets l.k) start

@@ -1,12 +1,12 @@
 use Rattle.std.proofs.Common.{◌++◌, ℕ, List, take, map}
-use Rattle.event_play.specs.Replay.{Tale}
+use Rattle.event_play.specs.Replay.{Replay}
 use Rattle.event_play.specs.Streams.{Outlets, without_sink}
 use Rattle.psxgpu_tool.specs.Words.{HavePlayed}
 use Rattle.psxgpu_tool.proofs.demo.play_words.Given as goal
 
 abbrev pub invariant-loop-word : goal.invariant-loop-word
 invariant-loop-word g l =
-    (first : Tale) (done : List ℕ) (start : Outlets)
+    (first : Replay) (done : List ℕ) (start : Outlets)
     → HavePlayed first done start (without_sink
     (map g.T.Listener.heard l.initial.taps.items) l.initial.steps) l.initial.rig
     → HavePlayed first (done ++ take l.word-index l.words) start

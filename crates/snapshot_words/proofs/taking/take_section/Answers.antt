@@ -29,7 +29,7 @@ words-preserved g c =
     record {
       goes = rw c.push.ensures.items (goes_on _ _ _ _ _ c.words.invariant.goes _ c.in-Ok.ensures.word due may);
       allowed = rw c.push.ensures.items (allowed_on _ _ _ c.words.invariant.allowed due may c.in-Ok.ensures.word.fits);
-      place = rw c.push.ensures.items (omega (arith, longer, c.words.invariant.place));
+      offset = rw c.push.ensures.items (omega (arith, longer, c.words.invariant.offset));
       few = rw c.push.ensures.items (omega (arith, longer, rw c.as_slice.ensures.value at few));
       faults = omega (arith, c.words.invariant.faults, c.in-Ok.ensures.faults);
     }

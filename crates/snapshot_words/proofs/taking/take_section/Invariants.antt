@@ -5,10 +5,10 @@ use Rattle.snapshot_words.proofs.taking.take_section.Given as goal
 
 abbrev pub invariant-words : goal.invariant-words
 invariant-words g l = record {
-  goes : Goes l.section (remainder l.initial.place (g.S.Source.left l.initial.source))
-      (remainder l.place (g.S.Source.left l.source)) l.words.items;
+  goes : Goes l.section (remainder l.initial.offset (g.S.Source.left l.initial.source))
+      (remainder l.offset (g.S.Source.left l.source)) l.words.items;
   allowed : AreAllowed l.section l.words.items;
-  place : l.place ≡ l.initial.place + 4 * length l.words.items;
+  offset : l.offset ≡ l.initial.offset + 4 * length l.words.items;
   few : length l.words.items ≤ 13;
   faults : g.S.Source.faults l.initial.source ≤ g.S.Source.faults l.source;
 }

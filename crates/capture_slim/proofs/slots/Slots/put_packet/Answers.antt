@@ -1,12 +1,12 @@
 use Rattle.std.proofs.Common.{◌≡◌, ℕ, ◌++◌, ◌∷◌, [], List, take, get_or, length, ap, ◌∙◌, sym, arith, append_assoc}
 use Rattle.std.proofs.lemmas.List.{take_more, length-append, length-take}
 use Rattle.gpu_capture.specs.declared.event.Event.TheVariants as event
-use Rattle.capture_slim.specs.Window.{judged}
+use Rattle.capture_slim.specs.Window.{packet_slots}
 use Rattle.capture_slim.specs.Settling.{mark_of}
 use Rattle.capture_slim.specs.declared.slot.Mark.{Mark}
 use Rattle.capture_slim.specs.declared.slot.Slot.{Slot}
-use Rattle.capture_slim.proofs.SettlingLemmas.{judged_push}
-use Rattle.capture_slim.proofs.WindowLemmas.{judged_long}
+use Rattle.capture_slim.proofs.SettlingLemmas.{packet_slots_push}
+use Rattle.capture_slim.proofs.WindowLemmas.{packet_slots_long}
 use Rattle.capture_slim.proofs.slots.Slots.put_packet.Goals as goal
 
 pub push-requires : goal.push-requires
@@ -17,8 +17,8 @@ push-requires c =
       ap length c.loop-word.invariant.slots,
       c.requires.room,
       c.loop-word-test.true,
-      length-append c.args.self.now (judged done c.args.area),
-      judged_long done c.args.area,
+      length-append c.args.self.now (packet_slots done c.args.area),
+      packet_slots_long done c.args.area,
       length-take c.loop-word.word-index c.args.words.now,
     )
 
@@ -36,8 +36,8 @@ loop-word-preserved c =
       slots = c.push.ensures
           ∙ ap (λ (m : Mark). c.loop-word.self ++ record { event = event.Gp0 w; mark = m } ∷ []) c.mark_of.ensures
           ∙ ap (λ (l : List Slot). l ++ s ∷ []) c.loop-word.invariant.slots
-          ∙ append_assoc slots (judged done c.args.area) (s ∷ [])
-          ∙ ap (λ (l : List Slot). slots ++ l) (sym (judged_push c.args.area done w c.loop-word.offset count)
-          ∙ ap (λ (ws : List ℕ). judged ws c.args.area) (sym (take_more words i 0 c.loop-word-test.true)));
+          ∙ append_assoc slots (packet_slots done c.args.area) (s ∷ [])
+          ∙ ap (λ (l : List Slot). slots ++ l) (sym (packet_slots_push c.args.area done w c.loop-word.offset count)
+          ∙ ap (λ (ws : List ℕ). packet_slots ws c.args.area) (sym (take_more words i 0 c.loop-word-test.true)));
       offset = omega (arith, c.loop-word.invariant.offset);
     }

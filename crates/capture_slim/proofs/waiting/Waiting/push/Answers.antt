@@ -8,10 +8,10 @@ use Rattle.capture_slim.proofs.PushLemmas.{few_words, pushed_is, pushed_keeps}
 use Rattle.capture_slim.proofs.SettlingLemmas.{settled_by_long}
 use Rattle.capture_slim.proofs.waiting.Waiting.push.Goals as goal
 
-pub heed-requires : goal.heed-requires
-heed-requires c = omega (
+pub apply_effect-requires : goal.apply_effect-requires
+apply_effect-requires c = omega (
   arith,
-  ap length c.as_slice-behind.ensures,
+  ap length c.as_slice-after.ensures,
   few_words c.self.inside.queue.words c.self.inside.track c.self.invariant.begun,
 )
 
@@ -21,18 +21,18 @@ add-requires-clause-few c = few_words c.self.inside.queue.words c.self.inside.tr
 pub add-requires-clause-room : goal.add-requires-clause-room
 add-requires-clause-room c = omega (
   arith,
-  ap length c.heed.ensures,
+  ap length c.apply_effect.ensures,
   c.self.invariant.few,
-  settled_by_long c.self.inside.queue.slots (length c.as_slice-behind.result.now) c.follow-told.result.saying,
+  settled_by_long c.self.inside.queue.slots (length c.as_slice-after.result.now) c.follow-told.result.effect,
 )
 
 added_is : (c : goal.After-leave) → within c.add.new.self c.follow-told.new.self
     ≡ pushed (within c.self.inside.queue c.self.inside.track) c.args.event
 added_is c = rw (
   c.add.ensures,
-  c.heed.ensures,
-  c.as_slice-behind.ensures,
-  c.follow-told.ensures.saying,
+  c.apply_effect.ensures,
+  c.as_slice-after.ensures,
+  c.follow-told.ensures.effect,
   c.follow-told.ensures.area,
   c.is_idle-idle.ensures,
   c.follow-told.ensures.control,

@@ -3,8 +3,8 @@ use Rattle.gpu_capture.specs.declared.event.Event.TheVariants.{Gp0}
 use Rattle.event_play.specs.RigState.{RigState}
 use Rattle.event_play.specs.Streams.{without_sink}
 use Rattle.event_play.specs.declared.ending.Mode.TheVariants.{Vram}
-use Rattle.event_play.specs.declared.work.Work.TheVariants.{Feed}
-use Rattle.event_play.specs.declared.work.Words.TheVariants.{One}
+use Rattle.event_play.specs.declared.operation.Operation.TheVariants.{Feed}
+use Rattle.event_play.specs.declared.operation.Words.TheVariants.{One}
 use Rattle.event_play.proofs.Events.{has_done, only_stepped}
 use Rattle.event_play.proofs.Feeds.{word_feeds}
 use Rattle.event_play.proofs.Plays.{word_done}

@@ -1,7 +1,7 @@
 use Rattle.std.proofs.Common.{refl, map, arith}
 use Rattle.std.proofs.lemmas.Result.{IfErr-weaker}
 use Rattle.event_play.specs.Replay.{from_state}
-use Rattle.event_play.specs.Streams.{gathering, outlets}
+use Rattle.event_play.specs.Streams.{buffering, outlets}
 use Rattle.event_play.proofs.Awaiting.{awaits_is, pauses_on, reads, starts}
 use Rattle.event_play.proofs.BoxCosts.{from_small}
 use Rattle.event_play.proofs.Reaching.{event_ends, plays_on}
@@ -13,7 +13,7 @@ use Rattle.event_play.proofs.rig.Rig.play_from.Goals as goal
 pub events-init : goal.events-init
 events-init g c = record {
   awaits = λ s e.
-      starts _ s c.args.self.now.played _ _ _ _ _ _ _ _ _ _ c.new-lines.ensures c.place-since.ensures
+      starts _ s c.args.self.now.played _ _ _ _ _ _ _ _ _ _ c.new-lines.ensures c.offset-since.ensures
       (rw c.version.ensures.value at c.raise.ensures (from_state s c.args.self.now.played)
       (record { state = e; played = refl }))
       c.next-next.result c.next-next.ensures.takes c.next-next.ensures.version
@@ -31,24 +31,24 @@ returns-in-Err-play_event-clause-ends g c = λ s e.
     let awaits = awaits_is _ _ _ _ _ _ _ _ _ _ c.in-Ok.is (c.events.invariant.awaits s e) in
     event_ends _ _ _ _ _ _ _ _ _ _ c.in-Ok.event awaits
     (from_small s c.args.self.now.played c.args.reader.now.progress)
-    c.in-Err-play_event.ending (g.K.Sink.held c.end_behind.new.out) c.end_behind.result
-    (c.in-Err-play_event.ensures.ends awaits.tale awaits.stands awaits.free) c.end_behind.ensures.ends
+    c.in-Err-play_event.ending (g.K.Sink.held c.end_after.new.out) c.end_after.result
+    (c.in-Err-play_event.ensures.ends awaits.replay awaits.stands awaits.free) c.end_after.ensures.ends
 
 pub returns-in-Err-clause-ends : goal.returns-in-Err-clause-ends
 returns-in-Err-clause-ends g c = λ s e.
     let awaits = awaits_is _ _ _ _ _ _ _ _ _ _ c.in-Err.is (c.events.invariant.awaits s e) in
-    let mid = gathering c.events.lines (outlets (g.K.Sink.held c.events.out) (g.K.Sink.faults c.events.out)
+    let mid = buffering c.events.lines (outlets (g.K.Sink.held c.events.out) (g.K.Sink.faults c.events.out)
     (map g.T.Listener.heard c.events.taps.items) c.events.steps) in
     reading_ends _ _ _ _ mid _ _ _ _ c.in-Err.stop awaits
     (from_small s c.args.self.now.played c.args.reader.now.progress)
     refl c.end_reading-in-Err.result
-    (c.end_reading-in-Err.ensures.ends awaits.tale.state.gpu awaits.stands.state.gpu)
+    (c.end_reading-in-Err.ensures.ends awaits.replay.state.gpu awaits.stands.state.gpu)
 
 pub returns-in-Err-write_before_words-clause-ends : goal.returns-in-Err-write_before_words-clause-ends
 returns-in-Err-write_before_words-clause-ends g c = λ s e.
     let awaits = awaits_is _ _ _ _ _ _ _ _ _ _ c.in-Ok.is (c.events.invariant.awaits s e) in
     let played = plays_on _ _ _ _ _ _ _ _ _ _ c.in-Ok.event awaits
-    (c.in_default.ensures.ok awaits.tale awaits.stands awaits.free) in
+    (c.in_default.ensures.ok awaits.replay awaits.stands awaits.free) in
     pause_ends _ _ _ _ _ _ _ _ (g.K.Sink.held c.write_before_words.new.out) c.in-Err-write_before_words.event played
     (from_small s c.args.self.now.played c.args.reader.now.progress) c.in-Err-write_before_words.ensures.failed
 
@@ -56,9 +56,9 @@ pub returns-in-Err-play_words-clause-ends : goal.returns-in-Err-play_words-claus
 returns-in-Err-play_words-clause-ends g c = λ s e.
     let awaits = awaits_is _ _ _ _ _ _ _ _ _ _ c.in-Ok.is (c.events.invariant.awaits s e) in
     let played = plays_on _ _ _ _ _ _ _ _ _ _ c.in-Ok.event awaits
-    (c.in_default.ensures.ok awaits.tale awaits.stands awaits.free) in
+    (c.in_default.ensures.ok awaits.replay awaits.stands awaits.free) in
     let started = rw c.in-Ok.is at c.events.invariant.known in
-    let paused = pauses_on _ _ _ _ _ _ _ c.in-Ok-write_before_words.place _ _
+    let paused = pauses_on _ _ _ _ _ _ _ c.in-Ok-write_before_words.offset _ _
     (g.K.Sink.held c.write_before_words.new.out) played started c.in-Ok-write_before_words.ensures.ok in
     let read = c.read_words-read.ensures in
     words_fail _ _ _ _ _ _ _ _ _ _ _ _ _ _ _ _ _
@@ -73,9 +73,9 @@ pub returns-in-Err-read-clause-ends : goal.returns-in-Err-read-clause-ends
 returns-in-Err-read-clause-ends g c = λ s e.
     let awaits = awaits_is _ _ _ _ _ _ _ _ _ _ c.in-Ok.is (c.events.invariant.awaits s e) in
     let played = plays_on _ _ _ _ _ _ _ _ _ _ c.in-Ok.event awaits
-    (c.in_default.ensures.ok awaits.tale awaits.stands awaits.free) in
+    (c.in_default.ensures.ok awaits.replay awaits.stands awaits.free) in
     let started = rw c.in-Ok.is at c.events.invariant.known in
-    let paused = pauses_on _ _ _ _ _ _ _ c.in-Ok-write_before_words.place _ _
+    let paused = pauses_on _ _ _ _ _ _ _ c.in-Ok-write_before_words.offset _ _
     (g.K.Sink.held c.write_before_words.new.out) played started c.in-Ok-write_before_words.ensures.ok in
     let read = c.read_words-read.ensures in
     let stopped = words_stop _ _ _ _ _ _ _ _ _ _ _ _ _ _ _ _ _
@@ -86,21 +86,21 @@ returns-in-Err-read-clause-ends g c = λ s e.
     (rw c.events.invariant.mode at c.in_default-play_words.ensures.puts)
     ((rw c.events.invariant.mode at c.play_words.ensures.free) paused.reached.free)
     c.in-Err-read.ensures.stop in
-    let mid = gathering c.play_words.new.lines (outlets (g.K.Sink.held c.play_words.new.out)
+    let mid = buffering c.play_words.new.lines (outlets (g.K.Sink.held c.play_words.new.out)
     (g.K.Sink.faults c.play_words.new.out) (map g.T.Listener.heard c.play_words.new.taps.items)
     c.play_words.new.steps) in
     reading_ends _ _ _ _ mid _ _ _ _ c.in-Err-read.stop stopped
     (from_small s c.args.self.now.played c.args.reader.now.progress)
     refl c.end_reading.result
-    (c.end_reading.ensures.ends stopped.tale.state.gpu stopped.stands.state.gpu)
+    (c.end_reading.ensures.ends stopped.replay.state.gpu stopped.stands.state.gpu)
 
 pub returns-in-Err-write_at_pause-clause-ends : goal.returns-in-Err-write_at_pause-clause-ends
 returns-in-Err-write_at_pause-clause-ends g c = λ s e.
     let awaits = awaits_is _ _ _ _ _ _ _ _ _ _ c.in-Ok.is (c.events.invariant.awaits s e) in
     let played = plays_on _ _ _ _ _ _ _ _ _ _ c.in-Ok.event awaits
-    (c.in_default.ensures.ok awaits.tale awaits.stands awaits.free) in
+    (c.in_default.ensures.ok awaits.replay awaits.stands awaits.free) in
     let started = rw c.in-Ok.is at c.events.invariant.known in
-    let paused = pauses_on _ _ _ _ _ _ _ c.in-Ok-write_before_words.place _ _
+    let paused = pauses_on _ _ _ _ _ _ _ c.in-Ok-write_before_words.offset _ _
     (g.K.Sink.held c.write_before_words.new.out) played started c.in-Ok-write_before_words.ensures.ok in
     let read = c.read_words-read.ensures in
     pause_ends _ _ _ _ _ _ _ _ (g.K.Sink.held c.write_at_pause.new.out) c.in-Err-write_at_pause.event
@@ -125,9 +125,9 @@ events-preserved g c =
       awaits = λ s e.
           let awaits = awaits_is _ _ _ _ _ _ _ _ _ _ c.in-Ok.is (c.events.invariant.awaits s e) in
           let played = plays_on _ _ _ _ _ _ _ _ _ _ c.in-Ok.event awaits
-          (c.in_default.ensures.ok awaits.tale awaits.stands awaits.free) in
+          (c.in_default.ensures.ok awaits.replay awaits.stands awaits.free) in
           let started = rw c.in-Ok.is at c.events.invariant.known in
-          let paused = pauses_on _ _ _ _ _ _ _ c.in-Ok-write_before_words.place _ _
+          let paused = pauses_on _ _ _ _ _ _ _ c.in-Ok-write_before_words.offset _ _
           (g.K.Sink.held c.write_before_words.new.out) played started c.in-Ok-write_before_words.ensures.ok in
           let read = c.read_words-read.ensures in
           let went = words_went _ _ _ _ _ _ _ _ _ _ _ _ _ _ _ _ _
@@ -139,7 +139,7 @@ events-preserved g c =
           (rw c.events.invariant.mode at c.in_default-play_words.ensures.puts)
           ((rw c.events.invariant.mode at c.play_words.ensures.free) paused.reached.free)
           c.in_default-read.ensures.takes in
-          let again = pauses_on _ _ _ _ _ _ _ c.in-Ok-write_at_pause.place _ _ (g.K.Sink.held c.write_at_pause.new.out)
+          let again = pauses_on _ _ _ _ _ _ _ c.in-Ok-write_at_pause.offset _ _ (g.K.Sink.held c.write_at_pause.new.out)
           went (rw read.goes_on.version started) c.in-Ok-write_at_pause.ensures.ok in
           reads _ _ _ _ _ _ _ _ _ _ again.reached (rw read.goes_on.version started) again.near
           c.next-next-in-Ok.result c.next-next-in-Ok.ensures.takes

@@ -1,7 +1,7 @@
 use Rattle.std.proofs.Common.{◌≡◌, ◌≤◌, None, OnOk, IfErr, map}
 use Rattle.dev_io.specs.Device.{Rose}
 use Rattle.gpu_capture.specs.Reader.{IsReadFault}
-use Rattle.event_play.specs.Replay.{from_state, script_behind}
+use Rattle.event_play.specs.Replay.{from_state, script_after}
 use Rattle.event_play.specs.RigState.{Stands}
 use Rattle.event_play.specs.Step.{Machine}
 use Rattle.event_play.specs.Streams.{streams}
@@ -11,7 +11,7 @@ use Rattle.event_play.proofs.rig.Rig.play_from.Given as goal
 abbrev pub invariant-events : goal.invariant-events
 invariant-events g l = record {
   awaits : (s : Machine) → Stands l.fn.self s → Awaits l.mode
-      (script_behind (from_state s l.fn.self.played) l.fn.reader.progress)
+      (script_after (from_state s l.fn.self.played) l.fn.reader.progress)
       (streams (g.S.Source.left l.fn.source) (g.K.Sink.held l.fn.out)
       (map g.T.Listener.heard l.fn.taps.items) l.fn.steps)
       (streams (g.S.Source.left l.source) (g.K.Sink.held l.out) (map g.T.Listener.heard l.taps.items) l.steps)

@@ -47,7 +47,7 @@ returns-in-Err-perform-clause-plays g c =
           let Q : RigState → Type 0 = λ rig. StandsFor rig t in
           let inside : StandsFor was t = subst Q (sym c.self.view_is) stands in
           inl (feeds_part _ was _ t c.next_number-number.result _ _ _ _ _ c.in-Ok.ensures.value inside number
-          c.in-Err-perform.ensures.performs.gathers (c.in-Err-perform.ensures.puts t.state.gpu inside.state.gpu).failed
+          c.in-Err-perform.ensures.performs.buffers (c.in-Err-perform.ensures.puts t.state.gpu inside.state.gpu).failed
           (c.in-Err-perform.ensures.performs.failed t.state.gpu inside.state.gpu)
           c.in-Err-perform.ensures.performs.played);
       known = (tt, λ x. x);
@@ -90,8 +90,8 @@ returns-in_default-clause-plays g c =
       faults = omega (arith, c.in-Ok-perform.ensures.performs.faults, c.in_default.ensures.writes.faults);
     }
 
-pub returns-in-Ok-write_behind-clause-plays : goal.returns-in-Ok-write_behind-clause-plays
-returns-in-Ok-write_behind-clause-plays g c =
+pub returns-in-Ok-write_after-clause-plays : goal.returns-in-Ok-write_after-clause-plays
+returns-in-Ok-write_after-clause-plays g c =
     let was : RigState = record {
       gpu = c.self.inside.gpu;
       ram = c.self.inside.ram;
@@ -114,9 +114,9 @@ returns-in-Ok-write_behind-clause-plays g c =
           plays _ was mid _ t c.next_number-number.result _ _ _ _ _ _ _ _ c.in-Ok.ensures.value c.self-2.view_is
           inside number c.in-Ok-perform.ensures.performs.ok (λ s e. (c.in-Ok-perform.ensures.puts s e).ok)
           c.in-Ok-perform.ensures.performs.kept free
-          c.in-Ok-write_behind.ensures.writes.ok c.in-Ok-write_behind.ensures.cost;
+          c.in-Ok-write_after.ensures.writes.ok c.in-Ok-write_after.ensures.cost;
       ends = λ t stands free. tt;
       known = tt;
       cause = tt;
-      faults = omega (arith, c.in-Ok-perform.ensures.performs.faults, c.in-Ok-write_behind.ensures.writes.faults);
+      faults = omega (arith, c.in-Ok-perform.ensures.performs.faults, c.in-Ok-write_after.ensures.writes.faults);
     }

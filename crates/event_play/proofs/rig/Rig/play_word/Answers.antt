@@ -1,9 +1,9 @@
 use Rattle.std.proofs.Common.{◌∙◌, ap, sym, subst, refl, inl, None, arith}
 use Rattle.event_play.specs.Replay.{next_number}
 use Rattle.event_play.specs.RigState.{RigState, StandsFor}
-use Rattle.event_play.specs.declared.work.Work.TheVariants as work
-use Rattle.event_play.specs.declared.work.Words.TheVariants.{One}
-use Rattle.event_play.proofs.Plays.{feeds_part, nothing_behind, plays, word_done}
+use Rattle.event_play.specs.declared.operation.Operation.TheVariants as operation
+use Rattle.event_play.specs.declared.operation.Words.TheVariants.{One}
+use Rattle.event_play.proofs.Plays.{feeds_part, nothing_after, plays, word_done}
 use Rattle.event_play.proofs.rig.Rig.play_word.Goals as goal
 
 pub returns-in-Ok-clause-plays : goal.returns-in-Ok-clause-plays
@@ -20,11 +20,11 @@ returns-in-Ok-clause-plays g c =
           let number = c.next_number-number.ensures ∙ ap next_number (sym stands.played) in
           let Q : RigState → Type 0 = λ rig. StandsFor rig t in
           let inside : StandsFor was t = subst Q (sym c.self.view_is) stands in
-          plays _ was fed fed t c.next_number-number.result _ (work.Feed (One c.args.word.value) was.running)
+          plays _ was fed fed t c.next_number-number.result _ (operation.Feed (One c.args.word.value) was.running)
           None _ _ _ _ _ refl refl inside number
           (λ s e. word_done _ was c.next_number-number.result c.args.word.value _ _ _ s (c.in-Ok.ensures.feeds.ok s e))
           (λ s e. (c.in-Ok.ensures.feeds.puts s e).ok) c.in-Ok.ensures.feeds.kept free
-          (nothing_behind c.args.word.mode _) (omega arith);
+          (nothing_after c.args.word.mode _) (omega arith);
       ends = λ t stands free. tt;
       known = tt;
       cause = tt;
@@ -45,8 +45,9 @@ returns-in-Err-clause-plays g c =
           let number = c.next_number-number.ensures ∙ ap next_number (sym stands.played) in
           let Q : RigState → Type 0 = λ rig. StandsFor rig t in
           let inside : StandsFor was t = subst Q (sym c.self.view_is) stands in
-          inl (feeds_part _ was _ t c.next_number-number.result _ (work.Feed (One c.args.word.value) was.running) _ _ _
-          refl inside number c.in-Err.ensures.feeds.gathers
+          inl (feeds_part _ was _ t c.next_number-number.result _
+          (operation.Feed (One c.args.word.value) was.running) _ _ _
+          refl inside number c.in-Err.ensures.feeds.buffers
           (c.in-Err.ensures.feeds.puts t.state.gpu inside.state.gpu).failed
           (record { feeding = c.in-Err.ensures.feeds.failed t.state.gpu inside.state.gpu; ram = refl; running = refl })
           refl);

@@ -10,12 +10,12 @@ pub returns : goal.returns
 returns g c = λ s e.
     let p : Parts = c.self.inside.parts in
     let kept : Pending → Kept = λ h. record { parts = c.take_all_pixels.new.self; pending = h } in
-    let behind : Parts → Kept = λ p. record {
+    let after : Parts → Kept = λ p. record {
       parts = p;
       pending = behind_pixels c.self.inside.splitter (length c.args.words.now);
     } in
     loads s p p.load c.self.inside.splitter c.args.played c.args.words.now _ _
     (e ∙ sym c.self.view_is) refl c.skip_pixels.ensures.bounds.0 c.self.invariant c.requires.some
     (rw (← c.self.view_is) at c.requires.wanted)
-    (ap kept c.skip_pixels.ensures.pending ∙ ap behind c.take_all_pixels.ensures.pixels)
+    (ap kept c.skip_pixels.ensures.pending ∙ ap after c.take_all_pixels.ensures.pixels)
     c.tell_all_bare.ensures.told c.take_all_pixels.ensures.cost

@@ -1,6 +1,6 @@
 use Rattle.std.proofs.Common.{◌≡◌, ◌+◌, ◌∷◌, [], ℕ, List, take, get_or, map, refl, sym, ap, subst, ◌∙◌, arith}
 use Rattle.std.proofs.lemmas.List.{take_more}
-use Rattle.gpu_core.specs.Feeds.{Behind, Hearing, SetsRegisters, TakesWords}
+use Rattle.gpu_core.specs.Feeds.{After, Hearing, SetsRegisters, TakesWords}
 use Rattle.gpu_core.specs.Kept.{kept_of}
 use Rattle.gpu_core.specs.Machine.{gp0_note}
 use Rattle.gpu_core.proofs.Feeds.{one_taken, set_taken}
@@ -30,7 +30,7 @@ returns-clause-takes g c = λ s e.
       heard = map g.T.Listener.heard c.args.taps.now.items;
       steps = c.args.steps.now;
     } in
-    let now : Behind = record {
+    let now : After = record {
       gpu = c.gp0.new.self;
       heard = map g.T.Listener.heard c.gp0.new.taps.items;
       steps = c.gp0.new.steps;

@@ -1,6 +1,6 @@
 use Rattle.std.proofs.Common.{◌≡◌, ◌+◌, ◌∷◌, [], ℕ, List, take, get_or, map, sym, ap, subst, ◌∙◌}
 use Rattle.std.proofs.lemmas.List.{take_more}
-use Rattle.gpu_core.specs.Feeds.{Behind, Hearing, TakesWords, but_pixels}
+use Rattle.gpu_core.specs.Feeds.{After, Hearing, TakesWords, but_pixels}
 use Rattle.gpu_core.specs.Machine.{gp0_note}
 use Rattle.gpu_core.proofs.Feeds.{one_taken}
 use Rattle.gpu_core.proofs.Loading.{pixels_unseen}
@@ -20,7 +20,7 @@ returns-clause-takes g c = λ s e.
       heard = map g.T.Listener.heard c.args.taps.now.items;
       steps = c.args.steps.now;
     } in
-    let now : Behind = record {
+    let now : After = record {
       gpu = c.gp0-note.new.self;
       heard = map g.T.Listener.heard c.gp0-note.new.taps.items;
       steps = c.gp0-note.new.steps;
