@@ -1,3 +1,4 @@
 pub mod BiasLemmas
 pub mod MeanLemmas
 pub mod Offsets
+pub mod SumLemmas

@@ -2,10 +2,11 @@
 ghost use Rattle.std.specs.Prelude.{◌≡◌, ◌≤◌, ◌<◌, ◌+◌, ◌-◌, ◌/◌, ◌*◌, ◌^◌, min, length, slice_index, slice_index_or};
 ghost use Rattle.std.specs.Prelude.{pos};
 ghost use Rattle.px_num.specs.Lanes.{EachLane};
-ghost use Rattle.blend_dither.specs.Color.{IsShift, tone_of, packed, modulated_of, blended_of, blended_channel};
+ghost use Rattle.blend_dither.specs.Color.{IsShift, tone_of, packed, modulated_of, blended_of};
 
 use crate::lanes::{biased, low5};
 use crate::mean::mean_lanes;
+use crate::sum::{added_lanes, quarter_added_lanes, subtracted_lanes};
 use px_num::lanes::{add, mul, shifted_down, smaller, splat, sub_or_zero};
 use std::simd::prelude::*;
 
@@ -83,35 +84,12 @@ pub fn blend_lanes(mode: u8, back: u16x16, front: u16x16) -> u16x16
         ≡ blended_of mode (slice_index back i) (slice_index front i)) }
     ensures low { EachLane (λ i. slice_index result i < 2 ^ 15) }
 {
-    if mode == 0 {
-        mean_lanes(back, front)
-    } else {
-        blended_channels(mode, back, front)
+    match mode {
+        0 => mean_lanes(back, front),
+        1 => added_lanes(back, front),
+        2 => subtracted_lanes(back, front),
+        _ => quarter_added_lanes(back, front),
     }
-}
-
-// The same, channel by channel.
-fn blended_channels(mode: u8, back: u16x16, front: u16x16) -> u16x16
-    requires mode { mode ≤ 3 }
-    requires long { (length back ≡ 16) × (length front ≡ 16) }
-    ensures long { length result ≡ 16 }
-    ensures value { EachLane (λ i. slice_index result i
-        ≡ blended_of mode (slice_index back i) (slice_index front i)) }
-    ensures low { EachLane (λ i. slice_index result i < 2 ^ 15) }
-{
-    pack_lanes(
-        blended_lanes(mode, low5(back), low5(front)),
-        blended_lanes(
-            mode,
-            low5(shifted_down(back, 5)),
-            low5(shifted_down(front, 5)),
-        ),
-        blended_lanes(
-            mode,
-            low5(shifted_down(back, 10)),
-            low5(shifted_down(front, 10)),
-        ),
-    )
 }
 
 fn pack_lanes(red: u16x16, green: u16x16, blue: u16x16) -> u16x16
@@ -153,20 +131,4 @@ fn modulated_lanes(texels: u16x16, colors: u16x16, bias: u16x16) -> u16x16
     let eightfold = mul(splat(8), texels);
     let product = mul(eightfold, colors);
     shifted_lanes(shifted_down(product, 7), bias)
-}
-
-fn blended_lanes(mode: u8, back: u16x16, front: u16x16) -> u16x16
-    requires mode { mode ≤ 3 }
-    requires long { (length back ≡ 16) × (length front ≡ 16) }
-    requires low { EachLane (λ i. (slice_index back i < 32) × (slice_index front i < 32)) }
-    ensures long { length result ≡ 16 }
-    ensures value { EachLane (λ i. slice_index result i
-        ≡ blended_channel mode (slice_index back i) (slice_index front i)) }
-{
-    match mode {
-        0 => shifted_down(add(back, front), 1),
-        1 => smaller(add(back, front), splat(31)),
-        2 => sub_or_zero(back, front),
-        _ => smaller(add(back, shifted_down(front, 2)), splat(31)),
-    }
 }
