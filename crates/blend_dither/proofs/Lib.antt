@@ -2,3 +2,4 @@ pub mod BiasLemmas
 pub mod MeanLemmas
 pub mod Offsets
 pub mod SumLemmas
+pub mod ModulateLemmas
