@@ -1,3 +1,5 @@
 pub mod BiasLemmas
 pub mod MeanLemmas
 pub mod Offsets
+pub mod SumLemmas
+pub mod ModulateLemmas

@@ -10,6 +10,7 @@ mod lanes;
 pub mod laws;
 mod mean;
 mod pixel;
+mod sum;
 mod wide;
 
 pub use pixel::{blend, modulate, pack, shift_at, tone};

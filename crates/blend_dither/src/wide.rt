@@ -2,11 +2,15 @@
 ghost use Rattle.std.specs.Prelude.{◌≡◌, ◌≤◌, ◌<◌, ◌+◌, ◌-◌, ◌/◌, ◌*◌, ◌^◌, min, length, slice_index, slice_index_or};
 ghost use Rattle.std.specs.Prelude.{pos};
 ghost use Rattle.px_num.specs.Lanes.{EachLane};
-ghost use Rattle.blend_dither.specs.Color.{IsShift, tone_of, packed, modulated_of, blended_of, blended_channel};
+ghost use Rattle.blend_dither.specs.Color.{IsShift, tone_of, packed, modulated_of, blended_of};
+ghost use Rattle.blend_dither.specs.Color.{red5_of, green5_of, blue5_of};
 
-use crate::lanes::{biased, low5};
+use crate::lanes::{biased, high_products};
 use crate::mean::mean_lanes;
-use px_num::lanes::{add, mul, shifted_down, smaller, splat, sub_or_zero};
+use crate::sum::{added_lanes, quarter_added_lanes, subtracted_lanes};
+use px_num::lanes::{
+    add, low_bits, mul, shifted_down, smaller, splat, sub_or_zero, wrapping_mul, wrapping_sub,
+};
 use std::simd::prelude::*;
 
 /// Returns [`tone`](crate::tone) in each lane, with dither offsets `shifts`. The channels must be at most 255.
@@ -69,9 +73,9 @@ pub fn modulate_lanes(
 {
     let bias = biased(shifts);
     pack_lanes(
-        modulated_lanes(low5(texels), red, bias),
-        modulated_lanes(low5(shifted_down(texels, 5)), green, bias),
-        modulated_lanes(low5(shifted_down(texels, 10)), blue, bias),
+        shifted_lanes(modulated_red(texels, red), bias),
+        shifted_lanes(modulated_green(texels, green), bias),
+        shifted_lanes(modulated_blue(texels, blue), bias),
     )
 }
 
@@ -84,35 +88,12 @@ pub fn blend_lanes(mode: u8, back: u16x16, front: u16x16) -> u16x16
         ≡ blended_of mode (slice_index back i) (slice_index front i)) }
     ensures low { EachLane (λ i. slice_index result i < 2 ^ 15) }
 {
-    if mode == 0 {
-        mean_lanes(back, front)
-    } else {
-        blended_channels(mode, back, front)
+    match mode {
+        0 => mean_lanes(back, front),
+        1 => added_lanes(back, front),
+        2 => subtracted_lanes(back, front),
+        _ => quarter_added_lanes(back, front),
     }
-}
-
-// As [`blend_lanes`], for any mode, computed channel by channel.
-fn blended_channels(mode: u8, back: u16x16, front: u16x16) -> u16x16
-    requires mode { mode ≤ 3 }
-    requires long { (length back ≡ 16) × (length front ≡ 16) }
-    ensures long { length result ≡ 16 }
-    ensures value { EachLane (λ i. slice_index result i
-        ≡ blended_of mode (slice_index back i) (slice_index front i)) }
-    ensures low { EachLane (λ i. slice_index result i < 2 ^ 15) }
-{
-    pack_lanes(
-        blended_lanes(mode, low5(back), low5(front)),
-        blended_lanes(
-            mode,
-            low5(shifted_down(back, 5)),
-            low5(shifted_down(front, 5)),
-        ),
-        blended_lanes(
-            mode,
-            low5(shifted_down(back, 10)),
-            low5(shifted_down(front, 10)),
-        ),
-    )
 }
 
 fn pack_lanes(red: u16x16, green: u16x16, blue: u16x16) -> u16x16
@@ -143,31 +124,37 @@ fn shifted_lanes(channels: u16x16, bias: u16x16) -> u16x16
     shifted_down(smaller(lowered, splat(255)), 3)
 }
 
-fn modulated_lanes(texels: u16x16, colors: u16x16, bias: u16x16) -> u16x16
-    requires long { (length texels ≡ 16) × (length colors ≡ 16) × (length bias ≡ 16) }
-    requires low { EachLane (λ i. (slice_index texels i < 32) × (slice_index colors i ≤ 255)
-        × (slice_index bias i < 8)) }
+// Returns `8 * texel * red / 128` of the red channel of each texel.
+fn modulated_red(texels: u16x16, red: u16x16) -> u16x16
+    requires long { (length texels ≡ 16) × (length red ≡ 16) }
+    requires low { EachLane (λ i. slice_index red i ≤ 255) }
     ensures long { length result ≡ 16 }
-    ensures value { EachLane (λ i. slice_index result i
-        ≡ min (8 * slice_index texels i * slice_index colors i / 128 + slice_index bias i - 4) 255 / 8) }
+    ensures value { EachLane (λ i. slice_index result i ≡ 8 * red5_of (slice_index texels i) * slice_index red i / 128) }
+    ensures low { EachLane (λ i. slice_index result i < 512) }
 {
-    let eightfold = mul(splat(8), texels);
-    let product = mul(eightfold, colors);
-    shifted_lanes(shifted_down(product, 7), bias)
+    high_products(wrapping_mul(texels, splat(2048)), mul(red, splat(2)))
 }
 
-fn blended_lanes(mode: u8, back: u16x16, front: u16x16) -> u16x16
-    requires mode { mode ≤ 3 }
-    requires long { (length back ≡ 16) × (length front ≡ 16) }
-    requires low { EachLane (λ i. (slice_index back i < 32) × (slice_index front i < 32)) }
+// Returns `8 * texel * green / 128` of the green channel of each texel.
+fn modulated_green(texels: u16x16, green: u16x16) -> u16x16
+    requires long { (length texels ≡ 16) × (length green ≡ 16) }
+    requires low { EachLane (λ i. slice_index green i ≤ 255) }
     ensures long { length result ≡ 16 }
-    ensures value { EachLane (λ i. slice_index result i
-        ≡ blended_channel mode (slice_index back i) (slice_index front i)) }
+    ensures value { EachLane (λ i. slice_index result i ≡ 8 * green5_of (slice_index texels i) * slice_index green i / 128) }
+    ensures low { EachLane (λ i. slice_index result i < 512) }
 {
-    match mode {
-        0 => shifted_down(add(back, front), 1),
-        1 => smaller(add(back, front), splat(31)),
-        2 => sub_or_zero(back, front),
-        _ => smaller(add(back, shifted_down(front, 2)), splat(31)),
-    }
+    let in_place = wrapping_sub(low_bits(texels, 10), low_bits(texels, 5));
+    high_products(in_place, mul(green, splat(128)))
+}
+
+// Returns `8 * texel * blue / 128` of the blue channel of each texel.
+fn modulated_blue(texels: u16x16, blue: u16x16) -> u16x16
+    requires long { (length texels ≡ 16) × (length blue ≡ 16) }
+    requires low { EachLane (λ i. slice_index blue i ≤ 255) }
+    ensures long { length result ≡ 16 }
+    ensures value { EachLane (λ i. slice_index result i ≡ 8 * blue5_of (slice_index texels i) * slice_index blue i / 128) }
+    ensures low { EachLane (λ i. slice_index result i < 512) }
+{
+    let in_place = wrapping_sub(low_bits(texels, 15), low_bits(texels, 10));
+    high_products(in_place, mul(blue, splat(4)))
 }
