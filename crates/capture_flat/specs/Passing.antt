@@ -31,8 +31,8 @@ pub record Way : Type 0 where
   pub flat : List Event
   pub replay : Replay
 
--- The events lead from replay `first` to replay `replay`, whatever events follow. `flat`: their flat events, empty if no
--- event was played.
+-- The events lead from replay `first` to `replay`, whatever events follow. `flat`: their flat events, empty if no event
+-- was played.
 pub record Follows (first : Replay) (events : List Event) (replay : Replay) (flat : List Event) : Type 0 where
   pub replays : (more : List Event) (stop : Stop) (rest : List ℕ)
       → played_events first (events ++ more) stop rest ≡ played_events replay more stop rest

@@ -18,8 +18,9 @@ pub(crate) const LIMIT: u32 = 1 << 30;
 /// The file headers of versions 1 to 3, in this order.
 const HEADS: [[u8; 8]; 3] = [*b"PSXGPUC1", *b"PSXGPUC2", *b"PSXGPUC3"];
 
-/// The state of a reader. `version`: 0 until the 8-byte header is read. `offset`: byte offset of the next word. `expected`:
-/// what that word is. `repeated`, `left`: the reader returns `repeated` `left` more times before it reads the word.
+/// The state of a reader. `version`: 0 until the 8-byte header is read. `offset`: byte offset of the next word.
+/// `expected`: what that word is. `repeated`, `left`: the reader returns `repeated` `left` more times before it reads
+/// the word.
 #[derive(Clone, Copy, Debug, PartialEq, Eq)]
 pub struct Progress {
     pub version: u8,
