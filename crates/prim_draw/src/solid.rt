@@ -8,10 +8,9 @@ ghost use Rattle.prim_draw.specs.Walks.{DrawsTriangle};
 ghost use Rattle.prim_draw.specs.Triangles.{IsDrawState, triangle_state};
 ghost use Rattle.prim_draw.specs.Solids.{IsEven, flat_state, solid_state};
 
-use crate::row_drawer::draw_rows;
+use crate::rows::{draw_rows, rows_of};
 use crate::settings::brush_in;
 use crate::style::Style;
-use crate::triangle_rows::rows_of;
 use edge_walk::Tri;
 use gp1_status::Regs;
 use px_num::Box2;
@@ -19,18 +18,18 @@ use span_lanes::{Brush, Paint, RowDrawer, Run, Span, draw_solid, solid_of};
 use std::sync::ledger::Ledger;
 use vram_store::{Steps, Vram};
 
-/// A colour that each cell becomes, whatever it holds, and the halfword that it is there.
+/// A colour that is neither blended, tested nor dithered, and the halfword that each cell becomes.
 #[derive(Clone, Copy)]
 pub(crate) struct Solid {
     /// The colour.
     pub(crate) color: u32,
-    /// How it comes to the cells.
+    /// The blending mode, mask setting and dither.
     pub(crate) brush: Brush,
-    /// What is written.
+    /// The halfword that is written.
     pub(crate) halfword: u16,
 }
 
-/// The colour of a triangle, where each of its cells becomes the same halfword.
+/// Returns the colour of a triangle if each of its cells becomes the same halfword.
 #[inline(always)]
 #[tactic(auto, unfolding(crate::specs::Triangles::triangle_state, crate::specs::Triangles::triangle_paint))]
 pub(crate) fn solid_color_in(regs: &Regs, style: &Style) -> Option<Solid>
@@ -46,7 +45,7 @@ pub(crate) fn solid_color_in(regs: &Regs, style: &Style) -> Option<Solid>
     }
 }
 
-// A colour and a brush, where each cell becomes the same halfword.
+// Returns a colour and a brush if each cell becomes the same halfword.
 #[inline(always)]
 fn solid_flat(color: u32, brush: &Brush) -> Option<Solid>
     requires is { IsBrush brush.now }
@@ -65,7 +64,7 @@ fn solid_flat(color: u32, brush: &Brush) -> Option<Solid>
 }
 
 impl Solid {
-    /// Draws the cells of a box that are inside of a triangle.
+    /// Draws the cells of a box that are inside a triangle.
     #[inline(always)]
     pub(crate) fn draw_rows<L: Ledger>(
         &self,

@@ -1,10 +1,7 @@
--- Blocks of cells in which spans lie.
+-- Clip rectangles.
 use Rattle.std.specs.Prelude.{ℕ, ◌≡◌, ◌+◌, ◌≤◌, ◌<◌, Some}
 use Rattle.span_lanes.specs.Guard.{IsHazardFree, HasClutInOtherRow}
-use Rattle.span_lanes.specs.SpanDrawer.{SpanDrawerView, new_drawer}
 use Rattle.span_lanes.specs.declared.clip_rect.ClipRect.{ClipRect}
-use Rattle.span_lanes.specs.declared.span.Brush.{Brush}
-use Rattle.span_lanes.specs.declared.span.Paint.{Paint}
 use Rattle.span_lanes.specs.declared.span.Span.{Span}
 use Rattle.span_lanes.specs.Shade.{IsSpan, texture_of}
 use Rattle.texel_lanes.specs.declared.texture.Texture.{Texture}
@@ -16,24 +13,15 @@ pub record IsClipRect (height : ℕ) (b : ClipRect) : Type 0 where
   pub right : b.x + b.w ≤ 1024
   pub bottom : b.y + b.h ≤ height
 
--- n cells of a row from (x, y) on lie in a block
+-- n cells of a row from (x, y) on are in a clip rectangle
 pub record IsInClip (b : ClipRect) (x y n : ℕ) : Type 0 where
   pub left : b.x ≤ x
   pub right : x + n ≤ b.x + b.w
   pub top : b.y ≤ y
   pub bottom : y < b.y + b.h
 
--- the spans in a block read nothing that they write, and none has the row of the palette, if there is one of sixteen
--- entries
+-- the spans in a clip rectangle read nothing that they write, and none has the row of the CLUT, if there is one of
+-- sixteen entries
 pub record IsClipHazardFree (b : ClipRect) (t : Texture) : Type 0 where
   pub hazard_free : (s : Span) → texture_of s.paint ≡ Some t → IsSpan s → IsInClip b s.x s.y s.n → IsHazardFree s
   pub palette : (s : Span) → IsInClip b s.x s.y s.n → HasClutInOtherRow t s.y
-
--- what a pen draws with, and the block in which its spans lie
-pub record BlockDrawerView : Type 0 where
-  pub held : SpanDrawerView
-  pub clip_rect : ClipRect
-
--- one that has seen no palette
-abbrev pub new_view_in_clip : Paint → Brush → ClipRect → BlockDrawerView
-new_view_in_clip paint brush clip_rect = record { held = new_drawer (record { paint = paint; brush = brush }); clip_rect = clip_rect }

@@ -7,7 +7,7 @@
 // - `Solid`, in `draw_ready` and `draw_solid`: all cells become one halfword, and nothing is read. [triangle flat]
 // - `Untextured`, in `draw_flat`: one colour that is blended, tested or dithered; its channels are known. [rectangle B+F]
 // - `Untextured`, two in `draw_gouraud`: colours along the row, three lines a part, as it is or not. [triangle gouraud]
-// - `CachedClut<TexelRun>`, in `CachedClutDrawer::draw`: a palette coloured once, as it is; it stands in the loop over the rows.
+// - `CachedClut<TexelRun>`, in `CachedClutMethod::draw_row`: a palette coloured once, as it is; it stands in the loop over the rows.
 //   [triangle 4-bit modulated]
 // - `CachedClut<&CoordRamps>` and `Shaded<&CoordRamps>`, in `draw_flat_texels`: by the coordinates of each texel under one
 //   colour, apart from what is written. No line belongs to them.
@@ -20,10 +20,10 @@
 // - `CachedClut<&TexCoords>` and `RowSetup`, by the coordinates of each texel: in `draw_row_by_coords` [rectangle that is flipped], and
 //   in `draw_tri` where the block of a triangle is not known to lie apart, to which no line belongs.
 //
-// Rectangles whose palette is coloured once for all rows have four more of `CachedClut<TexelRun>`, in `CachedClutRowsDrawer::draw_row`.
+// Rectangles whose palette is coloured once for all rows have four more of `CachedClut<TexelRun>`, in `CachedClutRows::draw_row`.
 // [rectangle, sprite 4-bit]
 ghost use Rattle.std.specs.Prelude.{◌≡◌};
-ghost use Rattle.span_lanes.specs.BlockDrawer.{AreContiguous};
+ghost use Rattle.span_lanes.specs.TriangleDrawer.{AreContiguous};
 ghost use Rattle.span_lanes.specs.Draws.{CanDraw, DrawsSpan, at_stage};
 ghost use Rattle.span_lanes.specs.Guard.{HasClutInOtherRow};
 ghost use Rattle.span_lanes.specs.CachedClut.{CanTakeTexels};
