@@ -22,7 +22,7 @@ use Rattle.span_lanes.specs.Pattern.{Pattern, uniform, span_from}
 use Rattle.prim_draw.specs.Rectangles.{extent_at, pattern_of, rectangle_box, rectangle_setup_in}
 use Rattle.prim_draw.specs.Triangles.{draws, row_inside, lower_half, triangle_box, triangle_state, upper_half}
 use Rattle.span_lanes.specs.declared.span.DrawState.{DrawState}
-use Rattle.prim_draw.specs.declared.polygon.Polygon.{Polygon}
+use Rattle.prim_draw.specs.declared.vertices.Polygon.{Polygon}
 use Rattle.prim_draw.specs.declared.rectangles.Extent.{Extent}
 use Rattle.prim_draw.specs.declared.rectangles.RectangleSetup.{RectangleSetup}
 use Rattle.prim_draw.specs.declared.style.Style.{Style}

@@ -1,7 +1,7 @@
 -- The cells of a row that a triangle draws, as a run of cells.
 use Rattle.std.proofs.Common.{◌≡◌, ◌<◌, ◌≤◌, ℕ, zero, suc, ◌+◌, ◌-◌, min, ℤ, pos, ◌≤ℤ◌, ◌-ℤ◌, unsigned_abs, List, []}
 use Rattle.std.proofs.Common.{Option, length, ◌∷◌, ◌++◌, Bool, true, false, IsTrue, cond, map, inl, inr, refl, sym, ap}
-use Rattle.std.proofs.Common.{◌∙◌, arith, add-one, append-nil, Some, subst}
+use Rattle.std.proofs.Common.{◌∙◌, arith, add-one, append-nil, IfSome, None, Some, subst}
 use Rattle.std.specs.List.{filter, range_with_len}
 use Rattle.std.proofs.lemmas.Bool.{cases_lt}
 use Rattle.std.proofs.lemmas.Int.{ints}
@@ -10,7 +10,7 @@ use Rattle.std.proofs.lemmas.List.FromFn.{length-map-range_with_len}
 use Rattle.px_num.specs.declared.shape.Cell.{Cell}
 use Rattle.edge_walk.specs.Row.{IsRowSpan, IsInBox}
 use Rattle.edge_walk.specs.Triangle.{Corners, is_inside}
-use Rattle.span_lanes.specs.Cells.{drawn_cells, cell_in_row, row_cells}
+use Rattle.span_lanes.specs.Cells.{cell_in_row, row_cells}
 use Rattle.span_lanes.specs.Cost.{span_cost}
 use Rattle.span_lanes.specs.Cells.{Stage}
 use Rattle.span_lanes.specs.SpanDrawer.{DrawsCells}
@@ -20,7 +20,7 @@ use Rattle.span_lanes.proofs.CellsLemmas.{cells_append, row_more, row_none, row_
 use Rattle.prim_draw.specs.Boxes.{cells_down, cells_in_rows, row_box}
 use Rattle.prim_draw.specs.Costs.{side_by_side}
 use Rattle.span_lanes.specs.Pattern.{Pattern, painted_cells, pixel_at, span_from}
-use Rattle.prim_draw.specs.Rows.{CanDrawRun, DrawsRows, DrawsRun, Figure}
+use Rattle.prim_draw.specs.Rows.{DrawsRows, DrawsRun, Figure, PaintsAs}
 use Rattle.span_lanes.specs.Pattern.{run_span}
 use Rattle.prim_draw.specs.Triangles.{draws, row_inside, run_cells}
 use Rattle.span_lanes.specs.declared.span.Run.{Run}
@@ -160,24 +160,26 @@ span_of_row p x y (suc n) some =
     (length (map (cell_in_row x y) (range_with_len 0 (suc n)))))) here
     ∙ ap (λ (k : ℕ). span_cost (span_from p (record { x = x; y = y }) k)) count
 
--- drawing the span of a run draws its cells
-span_pixels : (height : ℕ) (p : Pattern) (y : ℕ) (run : Run) (m : List ℕ) → CanDrawRun height p y run
-    → drawn_cells (shade_at (run_span p y run)) p.brush.mask (row_cells run.x y run.n) m
-    ≡ painted_cells p (row_cells run.x y run.n) m
-unfolding shade
-span_pixels height p y run m can =
-    row_same (shade_at (run_span p y run)) (pixel_at p) p.brush.mask run.x y run.n m
-    (λ i lt now.
-    let back : (run.x + i) - run.x ≡ i = omega arith in
-    rw back (can.alike i lt now))
+-- what follows from a fact of a run, if there is one
+pub if_some : (found : Option Run) (P Q : Run → Type 0) → ((run : Run) → P run → Q run) → IfSome found P
+    → IfSome found Q
+if_some None P Q f is = tt
+if_some (Some run) P Q f is = f run is
 
-pub run_drawn : (height : ℕ) (p : Pattern) (y : ℕ) (run : Run) (before after : Stage) → CanDrawRun height p y run
-    → DrawsCells (run_span p y run) before after → DrawsRun p y (Some run) before after
-run_drawn height p y run before after can drawn = record {
-  cells = drawn.cells ∙ span_pixels height p y run before.m can;
-  long = drawn.long;
-  cost = rw (span_of_row p run.x y run.n can.span.some) drawn.cost;
-}
+-- a span is the cells of a pattern whose pixels it has
+pub run_drawn : (p own : Pattern) (y : ℕ) (run : Run) (before after : Stage) → PaintsAs p own y run
+    → DrawsCells (run_span own y run) before after → DrawsRun p y (Some run) before after
+unfolding shade
+run_drawn p own y run before after paints drawn =
+    let so : DrawsCells (run_span p y run) before after =
+    subst (λ (s : Span). DrawsCells s before after) paints.span drawn in
+    record {
+      cells = so.cells
+          ∙ row_same (shade_at (run_span p y run)) (pixel_at p) p.brush.mask run.x y run.n before.m
+          (λ i lt now. let back : (run.x + i) - run.x ≡ i = omega arith in rw back (paints.alike i lt now));
+      long = so.long;
+      cost = rw (span_of_row p run.x y run.n paints.some) so.cost;
+    }
 
 -- ---- rows that are drawn one after another
 

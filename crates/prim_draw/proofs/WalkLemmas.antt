@@ -9,7 +9,7 @@ use Rattle.edge_walk.specs.Walk.{HasRows}
 use Rattle.edge_walk.specs.declared.row_scan.RowScan.{RowScan}
 use Rattle.prim_draw.specs.Boxes.{clip_rect_of, row_box, IsOnScreen, LiesIn}
 use Rattle.prim_draw.specs.Walks.{IsRowOf, StandAt}
-use Rattle.prim_draw.specs.declared.triangle_rows.TriangleRows.{TriangleRows}
+use Rattle.prim_draw.specs.declared.rows.TriangleRows.{TriangleRows}
 
 -- a clip rectangle of video memory and its box
 pub record IsBoxOf (clip : Box2) (x y w h : ℕ) : Type 0 where

@@ -16,7 +16,7 @@ use Rattle.prim_draw.specs.Rectangles.{extent_at, pattern_of, rectangle_box, rec
 use Rattle.gp1_status.specs.Drawing.{drawing_area}
 use Rattle.prim_draw.specs.Triangles.{lower_half, row_inside, triangle_box, triangle_state, upper_half}
 use Rattle.span_lanes.specs.declared.span.DrawState.{DrawState}
-use Rattle.prim_draw.specs.declared.polygon.Polygon.{Polygon}
+use Rattle.prim_draw.specs.declared.vertices.Polygon.{Polygon}
 use Rattle.prim_draw.specs.declared.rectangles.Extent.{Extent}
 use Rattle.prim_draw.specs.declared.rectangles.RectangleSetup.{RectangleSetup}
 use Rattle.prim_draw.specs.declared.style.Style.{Style}

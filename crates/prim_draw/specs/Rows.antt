@@ -2,18 +2,18 @@
 use Rattle.std.specs.Prelude.{ℕ, ◌+◌, ◌<◌, ◌≤◌, ◌≡◌, List, Option, length}
 use Rattle.px_num.specs.declared.shape.Cell.{Cell}
 use Rattle.span_lanes.specs.Cells.{Stage}
-use Rattle.span_lanes.specs.Shade.{IsSpan, LiesIn, paint_pixel}
+use Rattle.span_lanes.specs.Shade.{paint_pixel}
 use Rattle.prim_draw.specs.Boxes.{cells_down}
 use Rattle.prim_draw.specs.Costs.{cost_down, side_by_side}
 use Rattle.span_lanes.specs.Pattern.{Pattern, painted_cells, run_span}
 use Rattle.prim_draw.specs.Triangles.{run_cells}
 use Rattle.span_lanes.specs.declared.span.Run.{Run}
 
--- a run can be drawn in video memory of this height, and the paint of its first cell determines the pixel of each
--- cell
-pub record CanDrawRun (height : ℕ) (p : Pattern) (y : ℕ) (run : Run) : Type 0 where
-  pub span : IsSpan (run_span p y run)
-  pub lies : LiesIn height (run_span p y run)
+-- a run that is drawn with one pattern has the pixels of another: the span is the same, and the paint of its first cell
+-- gives the pixel of each
+pub record PaintsAs (p own : Pattern) (y : ℕ) (run : Run) : Type 0 where
+  pub some : 1 ≤ run.n
+  pub span : run_span own y run ≡ run_span p y run
   pub alike : (i : ℕ) → i < run.n → (m : List ℕ)
       → paint_pixel (run_span p y run).paint p.brush (run.x + i) y i m
       ≡ paint_pixel (p.paint (record { x = run.x + i; y = y })) p.brush (run.x + i) y 0 m

@@ -19,7 +19,7 @@ use Rattle.span_lanes.specs.Pattern.{uniform, painted_cells}
 use Rattle.prim_draw.specs.Settings.{brush_in, placed, texture_in}
 use Rattle.span_lanes.specs.declared.clip_rect.ClipRect.{ClipRect}
 use Rattle.span_lanes.specs.declared.span.DrawState.{DrawState}
-use Rattle.prim_draw.specs.declared.polygon.Polygon.{Polygon}
+use Rattle.prim_draw.specs.declared.vertices.Polygon.{Polygon}
 use Rattle.prim_draw.specs.declared.style.Style.{Style}
 use Rattle.span_lanes.specs.declared.span.Run.{Run}
 

@@ -10,21 +10,21 @@ use Rattle.span_lanes.specs.Pattern.{uniform}
 use Rattle.prim_draw.specs.Rows.{DrawsRows, Figure}
 use Rattle.prim_draw.specs.Triangles.{row_inside}
 use Rattle.span_lanes.specs.declared.span.DrawState.{DrawState}
-use Rattle.prim_draw.specs.declared.triangle_rows.TriangleRows.{TriangleRows}
+use Rattle.prim_draw.specs.declared.rows.TriangleRows.{TriangleRows}
 
--- a scan is at row y of a triangle in a box of video memory
+-- the next row of a scan is this one, of a triangle in a box of video memory
 pub record IsRowOf (t : Corners) (clip : Box2) (y : ℕ) (rows : RowScan) : Type 0 where
   pub stands : AreRows t clip (pos y) rows
   pub on_screen : IsOnScreen 1024 clip
   pub in_box : pos y ≤ℤ clip.y2
 
--- the scan of a triangle's rows in a box is at row y, or just below the box
+-- the next row of a triangle in a box is this one, or the last was before it
 pub record StandAt (rows : TriangleRows) (y : ℕ) : Type 0 where
   pub on_screen : IsOnScreen 1024 rows.clip.now
   pub clip_rect : rows.clip_rect ≡ clip_rect_of rows.clip.now
   pub stands : AreRows rows.tri.now rows.clip.now (pos y) rows.walk
 
--- the rows are those of this triangle in this box, and the scan is at the first
+-- they are those of this triangle in this box, from the first
 pub record AreRowsIn (t : Corners) (clip : Box2) (rows : TriangleRows) : Type 0 where
   pub tri : rows.tri.now ≡ t
   pub clip_rect : rows.clip_rect ≡ clip_rect_of clip

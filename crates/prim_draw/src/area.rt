@@ -4,11 +4,10 @@ ghost use Rattle.gp0_packets.specs.Ranges.{IsInRange, IsPolyInRange};
 ghost use Rattle.prim_draw.specs.Areas.{area_of, hull, joined, moved_box, polygon_area};
 
 use crate::boxes::{box_from, first_corner, greatest, last_corner, least};
-use crate::corners::placed_corners;
 use crate::lines::{placed_ends, segment_box};
-use crate::polygon::Polygon;
 use crate::rectangles::{extent_at, rectangle_box};
 use crate::triangles::triangle_box;
+use crate::vertices::{Polygon, placed_corners};
 use gp0_packets::Packet;
 use gp1_status::Regs;
 use px_num::Box2;

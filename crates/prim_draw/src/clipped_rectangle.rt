@@ -1,24 +1,22 @@
-// Rectangles, clipped to the cells that are drawn.
-ghost use Rattle.std.specs.Prelude.{◌≡◌, ◌≤◌, ◌<◌, ◌+◌, ◌-◌, Some, None, true, false};
+// Rectangles in a clip rectangle.
+ghost use Rattle.std.specs.Prelude.{◌≡◌, pos, ◌-ℤ◌, unsigned_abs, None};
 ghost use Rattle.vram_store.specs.Vram.{height_of};
 ghost use Rattle.span_lanes.specs.ClipRect.{IsClipRect};
 ghost use Rattle.span_lanes.specs.Shade.{row_u};
-ghost use Rattle.span_lanes.specs.TexelRows.{AreRowsFresh, CanCacheRows};
+ghost use Rattle.span_lanes.specs.TexelRows.{CanCacheRows};
 ghost use Rattle.prim_draw.specs.Rectangles.{IsExtent, IsPartOf};
-ghost use Rattle.prim_draw.specs.ClippedRectangle.{AreTexelsOf, CanDrawRectangle, DrawsRectangle, IsFirstRow, IsReadyFor, texels_of};
+ghost use Rattle.prim_draw.specs.ClippedRectangle.{AreTexelsOf, CanDrawRectangle, DrawsRectangle, texels_of};
 
 use crate::rectangles::{Extent, RectangleSetup};
-use crate::row_drawer::draw_rows;
-use crate::rows::ClipRectRows;
-use crate::texel_rows_drawer::{FirstRow, RectangleRowDrawer};
+use crate::rows::{ClipRectRows, draw_rows};
 use span_lanes::{
-    AnyRowsDrawer, CachedClutRowsDrawer, ClipRect, DrawState, Paint, SpanDrawer, TexelRowDrawer,
-    TexelRows, Texture, row_u,
+    AnyRows, CachedClutRows, ClipRect, DrawState, Paint, RectangleDrawer, SpanDrawer, TexelRows,
+    TexelRowsMethod, Texture, row_u,
 };
 use std::sync::ledger::Ledger;
 use vram_store::{Steps, Vram};
 
-/// A rectangle, with the clip rectangle of its drawn cells.
+/// A rectangle, and the part of it that is drawn.
 #[derive(Clone, Copy)]
 pub(crate) struct ClippedRectangle<'a> {
     /// What the cells are drawn with.
@@ -30,23 +28,20 @@ pub(crate) struct ClippedRectangle<'a> {
 }
 
 impl ClippedRectangle<'_> {
-    // Returns the first row of the clip rectangle, with the row of its texels.
+    // Returns the row of the page whose texels the first row of the clip rectangle has.
     #[inline(always)]
-    fn first_row(&self) -> FirstRow
+    fn first_texel_row(&self) -> u8
         requires extent { IsExtent self.now.extent.now }
         requires part { IsPartOf self.now.extent.now self.now.clip_rect.now }
         requires small { IsClipRect 1024 self.now.clip_rect.now }
-        ensures { IsFirstRow self.now result }
+        ensures { result ≡ row_u self.now.rectangle_setup.now.v self.now.rectangle_setup.now.flip_y
+            (unsigned_abs (pos self.now.clip_rect.now.y -ℤ self.now.extent.now.top)) }
     {
         let row = (self.clip_rect.y as i32 - self.extent.top) as u16;
-        FirstRow {
-            y: self.clip_rect.y,
-            v: row_u(self.rectangle_setup.v, self.rectangle_setup.flip_y, row),
-            falls: self.rectangle_setup.flip_y,
-        }
+        row_u(self.rectangle_setup.v, self.rectangle_setup.flip_y, row)
     }
 
-    // Returns the texels of the clip rectangle, row by row.
+    // Returns the rows of texels of the clip rectangle.
     #[inline(always)]
     fn texels(&self, texture: &Texture) -> TexelRows
         requires extent { IsExtent self.now.extent.now }
@@ -60,38 +55,35 @@ impl ClippedRectangle<'_> {
             texture: *texture,
             u: row_u(self.rectangle_setup.u, self.rectangle_setup.flip_x, column),
             flip: self.rectangle_setup.flip_x,
+            v: self.first_texel_row(),
+            falls: self.rectangle_setup.flip_y,
             brush: self.rectangle_setup.brush,
             clip_rect: *self.clip_rect,
         }
     }
 
-    // Draws all rows with `drawer`, which must have the texels of the clip rectangle. Its cached palette, if any, must
-    // equal the one in video memory.
+    // Draws rows of texels by a method. Each method has an instance of this function.
     #[inline(always)]
-    fn draw_by<P: TexelRowDrawer, L: Ledger>(
+    fn draw_by<M: TexelRowsMethod, L: Ledger>(
         &self,
-        drawer: P,
+        texels: &TexelRows,
         vram: &mut Vram,
         steps: &mut Steps<L>,
     )
         requires can { CanDrawRectangle (height_of vram.old) self.now }
-        requires rows { AreTexelsOf self.now (P.rows_held drawer).rows }
-        requires fresh { AreRowsFresh (P.rows_held drawer) vram.old }
+        requires texels { AreTexelsOf self.now texels.now }
+        requires accepts { M.accepts texels.now }
         ensures { DrawsRectangle self.now
             (record { m = vram.old; steps = steps.old }) (record { m = vram.new; steps = steps.new }) }
     {
         let mut rows = ClipRectRows {
             clip_rect: *self.clip_rect,
         };
-        let mut drawer = RectangleRowDrawer {
-            rectangle: *self,
-            first: self.first_row(),
-            drawer,
-        };
+        let mut drawer = RectangleDrawer::<M>::new(texels);
         draw_rows(vram, &mut rows, &mut drawer, steps);
     }
 
-    // Draws rows whose palette can be modulated once, by one of four loops: raw or modulated, opaque or not.
+    // Draws texels whose CLUT is coloured once: by one loop for each case of raw and opaque.
     #[inline(never)]
     fn draw_cached<L: Ledger>(&self, rows: &TexelRows, vram: &mut Vram, steps: &mut Steps<L>)
         requires can { CanDrawRectangle (height_of vram.old) self.now }
@@ -104,21 +96,21 @@ impl ClippedRectangle<'_> {
         if rows.texture.raw {
             let rows = rows.known_raw(true);
             if opaque {
-                self.draw_by(CachedClutRowsDrawer::new(&rows.known_opaque()), vram, steps);
+                self.draw_by::<CachedClutRows, L>(&rows.known_opaque(), vram, steps);
             } else {
-                self.draw_by(CachedClutRowsDrawer::new(&rows), vram, steps);
+                self.draw_by::<CachedClutRows, L>(&rows, vram, steps);
             }
         } else {
             let rows = rows.known_raw(false);
             if opaque {
-                self.draw_by(CachedClutRowsDrawer::new(&rows.known_opaque()), vram, steps);
+                self.draw_by::<CachedClutRows, L>(&rows.known_opaque(), vram, steps);
             } else {
-                self.draw_by(CachedClutRowsDrawer::new(&rows), vram, steps);
+                self.draw_by::<CachedClutRows, L>(&rows, vram, steps);
             }
         }
     }
 
-    // Draws any rows of texels. Each row is tested by itself.
+    // Draws texels, choosing the loop for each row.
     #[inline(never)]
     fn draw_each<L: Ledger>(&self, rows: &TexelRows, vram: &mut Vram, steps: &mut Steps<L>)
         requires can { CanDrawRectangle (height_of vram.old) self.now }
@@ -126,7 +118,7 @@ impl ClippedRectangle<'_> {
         ensures { DrawsRectangle self.now
             (record { m = vram.old; steps = steps.old }) (record { m = vram.new; steps = steps.new }) }
     {
-        self.draw_by(AnyRowsDrawer::new(rows), vram, steps);
+        self.draw_by::<AnyRows, L>(rows, vram, steps);
     }
 
     // Draws a rectangle without a texture.

@@ -1,47 +1,48 @@
-// Textured triangles, clipped to their box.
+// Triangles in the clip rectangle of a box.
 ghost use Rattle.std.specs.Prelude.{IfSome};
 ghost use Rattle.vram_store.specs.Vram.{height_of};
 ghost use Rattle.span_lanes.specs.Shade.{texture_of};
-ghost use Rattle.span_lanes.specs.declared.block_drawer.RowMethod.TheVariants.{Contiguous, CachedClut, GouraudTexels, FlatTexelsByCoords};
+ghost use Rattle.span_lanes.specs.ClipRect.{IsClipHazardFree};
 ghost use Rattle.texel_lanes.specs.Texture.{IsTexture};
-ghost use Rattle.prim_draw.specs.ClippedTriangle.{CanDrawClipped, CanDrawRows, DrawsClipped, IsClippedTriangle};
-ghost use Rattle.prim_draw.specs.Boxes.{IsOnScreen};
+ghost use Rattle.prim_draw.specs.ClippedTriangle.{CanDrawClipped, CanDrawRows, DrawsClipped, IsClippedTriangle, state_of};
+ghost use Rattle.prim_draw.specs.Boxes.{IsOnScreen, clip_rect_of};
 ghost use Rattle.prim_draw.specs.Walks.{DrawsTriangle};
 
 use crate::boxes::clip_rect_of;
-use crate::row_drawer::draw_rows;
-use crate::triangle_rows::rows_of;
+use crate::rows::{draw_rows, rows_of};
 use edge_walk::Tri;
 use px_num::Box2;
 use span_lanes::{
-    Brush, CachedClutDrawer, ContiguousDrawer, DrawState, FlatTexelsDrawer, GouraudTexelsDrawer,
-    Paint, RowMethod, SpanDrawer, Texture, row_method,
+    Brush, CachedClutMethod, ContiguousMethod, DrawState, FlatTexelsMethod, GouraudTexelsMethod,
+    Paint, RowMethod, SpanDrawer, TexelMethod, Texture, TriangleDrawer, row_method,
 };
 use std::sync::ledger::Ledger;
 use vram_store::{Steps, Vram};
 
-// A textured triangle in a box, with its draw state and its row method.
+// A textured triangle in a box, and how its rows are drawn.
 #[derive(Clone, Copy)]
 struct ClippedTriangle<'a> {
     tri: &'a Tri,
     clip: &'a Box2,
-    // The triangle that determines texel coordinates and colours.
+    // the triangle of the texture coordinates
     own: &'a Tri,
     texture: &'a Texture,
     brush: &'a Brush,
     method: RowMethod,
 }
 
-// Each method has its own function, so that stack is reserved only for its own drawer.
 impl ClippedTriangle<'_> {
+    // Draws the rows by a method. Each method has an instance of this function, which clears its own locals alone.
     #[inline(always)]
-    fn kept<L: Ledger>(&self, color: u32, vram: &mut Vram, steps: &mut Steps<L>)
-        requires { CanDrawClipped (height_of vram.old) self.now (CachedClut color) }
+    fn draw_by<M: TexelMethod, L: Ledger>(&self, color: u32, vram: &mut Vram, steps: &mut Steps<L>)
+        requires rows { CanDrawRows (height_of vram.old) (state_of self.now) self.now.tri.now self.now.clip.now }
+        requires accepts { M.accepts self.now.own.now self.now.texture.now self.now.brush.now color }
+        requires hazard_free { IsClipHazardFree (clip_rect_of self.now.clip.now) self.now.texture.now }
         ensures { DrawsClipped self.now
             (record { m = vram.old; steps = steps.old }) (record { m = vram.new; steps = steps.new }) }
     {
         let clip_rect = clip_rect_of(self.clip);
-        let mut drawer = CachedClutDrawer::new(
+        let mut drawer = TriangleDrawer::<M>::new(
             self.own,
             self.texture,
             self.brush,
@@ -51,62 +52,27 @@ impl ClippedTriangle<'_> {
         draw_rows(vram, &mut rows_of(self.tri, self.clip), &mut drawer, steps);
     }
 
-    #[inline(always)]
-    fn beside<L: Ledger>(&self, vram: &mut Vram, steps: &mut Steps<L>)
-        requires { CanDrawClipped (height_of vram.old) self.now Contiguous }
-        ensures { DrawsClipped self.now
-            (record { m = vram.old; steps = steps.old }) (record { m = vram.new; steps = steps.new }) }
-    {
-        let clip_rect = clip_rect_of(self.clip);
-        let mut drawer = ContiguousDrawer::new(self.own, self.texture, self.brush, &clip_rect);
-        draw_rows(vram, &mut rows_of(self.tri, self.clip), &mut drawer, steps);
-    }
-
-    #[inline(always)]
-    fn scaled<L: Ledger>(&self, color: u32, vram: &mut Vram, steps: &mut Steps<L>)
-        requires { CanDrawClipped (height_of vram.old) self.now (FlatTexelsByCoords color) }
-        ensures { DrawsClipped self.now
-            (record { m = vram.old; steps = steps.old }) (record { m = vram.new; steps = steps.new }) }
-    {
-        let clip_rect = clip_rect_of(self.clip);
-        let mut drawer = FlatTexelsDrawer::new(
-            self.own,
-            self.texture,
-            self.brush,
-            &clip_rect,
-            color,
-        );
-        draw_rows(vram, &mut rows_of(self.tri, self.clip), &mut drawer, steps);
-    }
-
-    #[inline(always)]
-    fn mixed<L: Ledger>(&self, vram: &mut Vram, steps: &mut Steps<L>)
-        requires { CanDrawClipped (height_of vram.old) self.now GouraudTexels }
-        ensures { DrawsClipped self.now
-            (record { m = vram.old; steps = steps.old }) (record { m = vram.new; steps = steps.new }) }
-    {
-        let clip_rect = clip_rect_of(self.clip);
-        let mut drawer = GouraudTexelsDrawer::new(self.own, self.texture, self.brush, &clip_rect);
-        draw_rows(vram, &mut rows_of(self.tri, self.clip), &mut drawer, steps);
-    }
-
+    // Draws the rows by the chosen method.
     #[inline(always)]
     fn draw<L: Ledger>(&self, vram: &mut Vram, steps: &mut Steps<L>)
-        requires { CanDrawClipped (height_of vram.old) self.now self.now.method }
+        requires { CanDrawClipped (height_of vram.old) self.now }
         ensures { DrawsClipped self.now
             (record { m = vram.old; steps = steps.old }) (record { m = vram.new; steps = steps.new }) }
     {
         match self.method {
-            RowMethod::CachedClut { color } => self.kept(color, vram, steps),
-            RowMethod::Contiguous => self.beside(vram, steps),
-            RowMethod::FlatTexelsByCoords { color } => self.scaled(color, vram, steps),
-            RowMethod::GouraudTexels => self.mixed(vram, steps),
+            RowMethod::CachedClut { color } => self.draw_by::<CachedClutMethod, L>(
+                color, vram, steps,
+            ),
+            RowMethod::Contiguous => self.draw_by::<ContiguousMethod, L>(0, vram, steps),
+            RowMethod::FlatTexelsByCoords { color } => {
+                self.draw_by::<FlatTexelsMethod, L>(color, vram, steps)
+            }
+            RowMethod::GouraudTexels => self.draw_by::<GouraudTexelsMethod, L>(0, vram, steps),
         }
     }
 }
 
-// Returns a textured triangle in a box with its row method. Returns `None` without a texture, or if spans in the box
-// may have a hazard. The box must have a cell and be within 1024 columns and rows.
+// Returns how the rows of a triangle in a box are drawn. `None` if it has no texture or may read what it writes.
 #[inline(always)]
 fn clipped_triangle<'a>(
     state: &'a DrawState,
@@ -131,7 +97,7 @@ fn clipped_triangle<'a>(
     })
 }
 
-// Draws the rows of a triangle that has no texture, or whose spans may have a hazard.
+// Draws a triangle that has no texture or may read what it writes.
 #[inline(always)]
 fn draw_any<L: Ledger>(
     state: &DrawState,
@@ -148,8 +114,7 @@ fn draw_any<L: Ledger>(
     draw_rows(vram, &mut rows_of(tri, clip), &mut drawer, steps);
 }
 
-/// Draws the cells of the box `clip` that are inside a triangle. The box must be in video memory and in the triangle's
-/// bounding box.
+/// Draws the cells of a box that are inside a triangle.
 #[inline(always)]
 pub(crate) fn draw_with_state<L: Ledger>(
     state: &DrawState,

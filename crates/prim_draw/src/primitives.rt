@@ -7,12 +7,11 @@ ghost use Rattle.prim_draw.specs.Draw.{drawn_packet};
 ghost use Rattle.prim_draw.specs.Triangles.{drawn_polygon};
 
 use crate::area::{area_of, joined};
-use crate::corners::placed_corners;
 use crate::lines::{draw_segment, placed_ends};
-use crate::polygon::Polygon;
 use crate::rectangles::{extent_at, rectangle_setup_in};
 use crate::style::{Style, style_of};
 use crate::triangles::draw_triangle;
+use crate::vertices::{Polygon, placed_corners};
 use gp0_packets::Packet;
 use gp1_status::Regs;
 use px_num::Box2;

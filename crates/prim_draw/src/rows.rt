@@ -1,7 +1,22 @@
-// What cells of each row are drawn.
-use span_lanes::{ClipRect, Run};
+// Rows of cells, and the loop that draws them.
+ghost use Rattle.edge_walk.specs.Extent.{bounding_box};
+ghost use Rattle.prim_draw.specs.Boxes.{IsOnScreen, LiesIn};
+ghost use Rattle.prim_draw.specs.Walks.{AreRowsIn};
+ghost use Rattle.std.specs.Prelude.{ℕ, ◌≡◌, IfSome, length};
+ghost use Rattle.span_lanes.specs.ClipRect.{IsClipRect};
+ghost use Rattle.span_lanes.specs.Draws.{CanDraw};
+ghost use Rattle.span_lanes.specs.Pattern.{Pattern, run_span};
+ghost use Rattle.prim_draw.specs.Rows.{DrawsRows, DrawsRun, PaintsAs};
+ghost use Rattle.span_lanes.specs.declared.span.Run.{Run};
 
-/// The rows of a clip rectangle, from the top. The drawn cells of each are consecutive.
+use crate::boxes::clip_rect_of;
+use edge_walk::{RowScan, Tri};
+use px_num::Box2;
+use span_lanes::{ClipRect, RowDrawer, Run};
+use std::sync::ledger::Ledger;
+use vram_store::{Steps, Vram};
+
+/// The rows of a clip rectangle, from the top. The cells to draw in each row are contiguous.
 pub(crate) trait Rows: Drop {
     ghost use Rattle.std.specs.Prelude.{ℕ, ◌≡◌, ◌+◌, ◌<◌, IfSome, List};
     ghost use Rattle.px_num.specs.declared.shape.Cell.{Cell};
@@ -12,21 +27,20 @@ pub(crate) trait Rows: Drop {
     // The clip rectangle.
     ghost within: { Self → ClipRect };
 
-    // The cells of each row that are drawn.
+    // The cells to draw in each row.
     ghost cells: { Self → ℕ → List Cell };
 
     // `run_at` may return this run for this row.
     ghost gives: { Self → ℕ → Run → Type 0 };
 
-    // `run_at` may be called for this row.
+    // Holds if this is the next row.
     ghost stands: { Self → ℕ → Type 0 };
 
     /// Returns the clip rectangle.
     fn clip_rect(&self) -> ClipRect
         ensures { result ≡ within self.now };
 
-    /// Returns the drawn cells of the next row, or `None` if there are none. `y` must be the number of this row, which
-    /// is in the clip rectangle. After the call, the next row is `y + 1`.
+    /// Returns the cells to draw in the next row, which is row `y`.
     fn run_at(&mut self, y: u16) -> Option<Run>
         requires stands { stands self.old y }
         requires within { y < (within self.old).y + (within self.old).h }
@@ -46,7 +60,7 @@ pub(crate) struct ClipRectRows {
 
 impl Rows for ClipRectRows {
     ghost use Rattle.prim_draw.specs.Boxes.{clip_row};
-    ghost use Rattle.prim_draw.specs.ClippedRectangle.{IsWholeRow};
+    ghost use Rattle.span_lanes.specs.TexelRows.{IsWholeRow};
     ghost use Rattle.std.specs.Prelude.{◌≤◌};
 
     ghost within = { λ rows. rows.clip_rect };
@@ -66,5 +80,109 @@ impl Rows for ClipRectRows {
     fn run_at(&mut self, _y: u16) -> Option<Run> {
         let ClipRect { x, w, .. } = self.clip_rect;
         Some(Run { x, n: w })
+    }
+}
+
+/// The rows of a triangle in a box.
+#[derive(Drop)]
+pub(crate) struct TriangleRows<'a> {
+    tri: &'a Tri,
+    clip: &'a Box2,
+    clip_rect: ClipRect,
+    walk: RowScan,
+}
+
+/// Returns the rows of a triangle in a box.
+#[inline(always)]
+pub(crate) fn rows_of<'a>(tri: &'a Tri, clip: &'a Box2) -> TriangleRows<'a>
+    requires small { IsOnScreen 1024 clip.now }
+    requires inside { LiesIn (bounding_box tri.now) clip.now }
+    ensures { AreRowsIn tri.now clip.now result }
+{
+    TriangleRows {
+        tri,
+        clip,
+        clip_rect: clip_rect_of(clip),
+        walk: tri.rows(clip),
+    }
+}
+
+impl Rows for TriangleRows<'_> {
+    ghost use Rattle.span_lanes.specs.Pattern.{LiesInClip};
+    ghost use Rattle.prim_draw.specs.Triangles.{IsRun, row_inside};
+    ghost use Rattle.prim_draw.specs.Walks.{StandAt};
+
+    ghost within = { λ rows. rows.clip_rect };
+
+    ghost cells = { λ rows. row_inside rows.tri.now rows.clip_rect };
+
+    ghost gives = { λ rows y run. IsRun rows.tri.now y run × LiesInClip rows.clip_rect y run };
+
+    ghost stands = { StandAt };
+
+    #[inline(always)]
+    fn clip_rect(&self) -> ClipRect {
+        self.clip_rect
+    }
+
+    #[inline(always)]
+    fn run_at(&mut self, _y: u16) -> Option<Run> {
+        match self.walk.next() {
+            None => None,
+            Some((first, last)) => Some(Run {
+                x: first as u16,
+                n: (last - first + 1) as u16,
+            }),
+        }
+    }
+}
+
+// Draws the cells of a run of row `y`, if there is one.
+#[inline(always)]
+fn draw_found<P: RowDrawer, L: Ledger>(
+    vram: &mut Vram,
+    drawer: &mut P,
+    found: Option<Run>,
+    y: u16,
+    steps: &mut Steps<L>,
+)
+    requires can { IfSome found (λ run. CanDraw (run_span (P.pattern drawer.old) y run) vram.old) }
+    requires reaches { IfSome found (P.reaches drawer.old y) }
+    requires fresh { P.fresh drawer.old vram.old }
+    ensures drawn { (p : Pattern) → IfSome found (PaintsAs p (P.pattern drawer.old) y)
+        → DrawsRun p y found (record { m = vram.old; steps = steps.old }) (record { m = vram.new; steps = steps.new }) }
+    ensures long { length vram.new ≡ length vram.old }
+    ensures pattern { P.pattern drawer.new ≡ P.pattern drawer.old }
+    ensures reaches { (y : ℕ) (run : Run) → P.reaches drawer.old y run → P.reaches drawer.new y run }
+    ensures fresh { P.fresh drawer.new vram.new }
+{
+    if let Some(run) = found {
+        drawer.draw(vram, run, y, steps);
+    }
+}
+
+/// Draws the cells of each row, from the first row to the last. The outcome is that of any pattern with the pixels of
+/// the drawer.
+#[inline(always)]
+pub(crate) fn draw_rows<R: Rows, P: RowDrawer, L: Ledger>(
+    vram: &mut Vram,
+    rows: &mut R,
+    drawer: &mut P,
+    steps: &mut Steps<L>,
+)
+    requires clip_rect { IsClipRect 1024 (R.within rows.old) }
+    requires stands { R.stands rows.old (R.within rows.old).y }
+    requires can { (y : ℕ) (run : Run) → R.gives rows.old y run
+        → CanDraw (run_span (P.pattern drawer.old) y run) vram.old × P.reaches drawer.old y run }
+    requires fresh { P.fresh drawer.old vram.old }
+    ensures { (p : Pattern) → ((y : ℕ) (run : Run) → R.gives rows.old y run → PaintsAs p (P.pattern drawer.old) y run)
+        → DrawsRows (record { pattern = p; row = R.cells rows.old; top = (R.within rows.old).y }) (R.within rows.old).h
+        (record { m = vram.old; steps = steps.old }) (record { m = vram.new; steps = steps.new }) }
+{
+    let clip_rect = rows.clip_rect();
+    for j in 0..clip_rect.h {
+        let y = clip_rect.y + j;
+        let run = rows.run_at(y);
+        draw_found(vram, drawer, run, y, steps);
     }
 }

@@ -8,10 +8,9 @@ ghost use Rattle.prim_draw.specs.Walks.{DrawsTriangle};
 ghost use Rattle.prim_draw.specs.Triangles.{IsDrawState, triangle_state};
 ghost use Rattle.prim_draw.specs.Solids.{IsEven, flat_state, solid_state};
 
-use crate::row_drawer::draw_rows;
+use crate::rows::{draw_rows, rows_of};
 use crate::settings::brush_in;
 use crate::style::Style;
-use crate::triangle_rows::rows_of;
 use edge_walk::Tri;
 use gp1_status::Regs;
 use px_num::Box2;
@@ -19,19 +18,18 @@ use span_lanes::{Brush, Paint, RowDrawer, Run, Span, draw_solid, solid_of};
 use std::sync::ledger::Ledger;
 use vram_store::{Steps, Vram};
 
-/// A colour for which each cell becomes the same halfword, whatever its value.
+/// A colour that is neither blended, tested nor dithered, and the halfword that each cell becomes.
 #[derive(Clone, Copy)]
 pub(crate) struct Solid {
     /// The colour.
     pub(crate) color: u32,
-    /// The pixel settings.
+    /// The blending mode, mask setting and dither.
     pub(crate) brush: Brush,
-    /// The halfword that each cell becomes.
+    /// The halfword that is written.
     pub(crate) halfword: u16,
 }
 
-/// Returns the colour and the halfword of a triangle whose cells all become one halfword. Returns `None` for a triangle
-/// that is textured or shaded, or whose pixels are blended or tested.
+/// Returns the colour of a triangle if each of its cells becomes the same halfword.
 #[inline(always)]
 #[tactic(auto, unfolding(crate::specs::Triangles::triangle_state, crate::specs::Triangles::triangle_paint))]
 pub(crate) fn solid_color_in(regs: &Regs, style: &Style) -> Option<Solid>
@@ -47,7 +45,7 @@ pub(crate) fn solid_color_in(regs: &Regs, style: &Style) -> Option<Solid>
     }
 }
 
-// Returns a colour and the halfword that each cell becomes, or `None` if pixels are blended, tested or dithered.
+// Returns a colour and a brush if each cell becomes the same halfword.
 #[inline(always)]
 fn solid_flat(color: u32, brush: &Brush) -> Option<Solid>
     requires is { IsBrush brush.now }
@@ -66,8 +64,7 @@ fn solid_flat(color: u32, brush: &Brush) -> Option<Solid>
 }
 
 impl Solid {
-    /// Draws the cells of the box `clip` that are inside a triangle. The box must be in video memory and in the
-    /// triangle's bounding box.
+    /// Draws the cells of a box that are inside a triangle.
     #[inline(always)]
     pub(crate) fn draw_rows<L: Ledger>(
         &self,

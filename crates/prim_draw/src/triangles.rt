@@ -13,10 +13,10 @@ ghost use Rattle.prim_draw.specs.Walks.{DrawsTriangle};
 
 use crate::boxes::clipped;
 use crate::clipped_triangle::draw_with_state;
-use crate::corners::Corners;
 use crate::settings::{brush_in, texture_in};
 use crate::solid::solid_color_in;
 use crate::style::Style;
+use crate::vertices::Corners;
 use edge_walk::Tri;
 use gp1_status::Regs;
 use px_num::Box2;
@@ -56,7 +56,7 @@ fn state_of(regs: &Regs, style: &Style, tri: &Tri) -> DrawState
     }
 }
 
-// Returns a triangle's box, clipped to the drawing area, or `None` if no cell of it is left.
+// Returns a triangle's box, cut by the drawing area. `None` if that has no cell.
 fn clip_of(regs: &Regs, tri: &Tri) -> Option<Box2>
     requires drawn { is_drawn tri.now ≡ true }
     ensures value { result ≡ triangle_box regs.now tri.now }
@@ -67,8 +67,7 @@ fn clip_of(regs: &Regs, tri: &Tri) -> Option<Box2>
     clipped(regs, &tri.bounds())
 }
 
-// Draws the cells of the box `clip` that are inside a triangle. The box must be in video memory and in the triangle's
-// bounding box.
+// Draws the cells of a box that are inside a triangle.
 #[inline(always)]
 fn draw_inside<L: Ledger>(
     vram: &mut Vram,
@@ -112,7 +111,7 @@ fn draw_clipped<L: Ledger>(
     area
 }
 
-/// Draws a triangle and returns its box, as [`triangle_box`] does.
+/// Draws a triangle, and returns its box as [`triangle_box`] does.
 #[tactic(auto, unfolding(crate::specs::Triangles::triangle_box, crate::specs::Triangles::drawn_triangle))]
 pub(crate) fn draw_triangle<L: Ledger>(
     vram: &mut Vram,
@@ -133,8 +132,8 @@ pub(crate) fn draw_triangle<L: Ledger>(
     }
 }
 
-/// Returns the box of a triangle in the drawing area. Returns `None` if no cell of the box is in it, the size rule
-/// refuses the triangle, or its area is 0.
+/// Returns the box of a triangle in the drawing area. `None` if the box has no cell, the size rule refuses the triangle,
+/// or its area is 0.
 #[tactic(auto, unfolding(crate::specs::Triangles::triangle_box))]
 pub(crate) fn triangle_box(regs: &Regs, corners: &Corners) -> Option<Box2>
     ensures value { result ≡ triangle_box regs.now corners.now }

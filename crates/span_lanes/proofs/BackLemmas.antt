@@ -5,7 +5,7 @@ use Rattle.span_lanes.specs.declared.span.Brush.{Brush}
 use Rattle.span_lanes.specs.Shade.{flat_pixel, blended_if}
 use Rattle.span_lanes.specs.Lanes.{DoesFor}
 
--- the pixel of a colour
+-- the pixel of a 24-bit colour without a texture
 pub flat_back : (brush : Brush) (color : ℕ) (shift : ℤ) (cell h : ℕ) → DoesFor brush cell h
     → flat_pixel brush color shift cell ≡ flat_pixel brush color shift h
 unfolding flat_pixel blended_if

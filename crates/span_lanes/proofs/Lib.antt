@@ -1,18 +1,19 @@
-pub mod HazardFreeLemmas
+mod ColoredClutLemmas
+mod ShadingLemmas
+mod TexelRunLemmas
+mod TriangleSetupLemmas
+pub mod AttributeRampLemmas
 pub mod BackLemmas
 pub mod BlindLemmas
 pub mod CellsLemmas
+pub mod ChunkDrawLemmas
 pub mod ChunkLemmas
 pub mod ColorLemmas
 pub mod CostLemmas
 pub mod GuardLemmas
-pub mod ChunkDrawLemmas
-pub mod UntexturedLemmas
+pub mod HazardFreeLemmas
 pub mod PlanLemmas
-pub mod AttributeRampLemmas
 pub mod SolidLemmas
-mod TriangleSetupLemmas
-mod TexelRunLemmas
-mod ColoredClutLemmas
 pub mod TexelLemmas
-mod ShadingLemmas
+pub mod TexelRowLemmas
+pub mod UntexturedLemmas

@@ -1,31 +1,36 @@
 -- Rows of textured triangles.
-use Rattle.std.proofs.Common.{ap, ℕ, List}
-use Rattle.vram_store.specs.Vram.{height_of}
+use Rattle.std.proofs.Common.{◌≡◌, ap, ℕ, List, Some}
 use Rattle.span_lanes.specs.declared.clip_rect.ClipRect.{ClipRect}
 use Rattle.span_lanes.specs.declared.triangle_setup.TriangleSetup.{TriangleSetup}
 use Rattle.span_lanes.specs.declared.span.Span.{Span}
-use Rattle.span_lanes.specs.ClipRect.{IsClipHazardFree, IsInClip}
+use Rattle.span_lanes.specs.ClipRect.{IsInClip}
 use Rattle.span_lanes.proofs.ShadingLemmas.{one_hues}
-use Rattle.span_lanes.specs.BlockDrawer.{CanCacheTriangle}
+use Rattle.span_lanes.specs.TriangleDrawer.{CanCacheTriangle, CanDrawRow, IsFreeIn}
 use Rattle.span_lanes.specs.CachedClut.{CanColorClut}
 use Rattle.span_lanes.specs.SpanDrawer.{state_of}
-use Rattle.span_lanes.specs.Shade.{IsSpan, LiesIn, texture_of}
+use Rattle.span_lanes.specs.Shade.{texture_of}
+use Rattle.span_lanes.specs.Draws.{CanDraw}
 use Rattle.span_lanes.specs.TriangleSetup.{CanDrawSetup, IsSetupOf}
 use Rattle.span_lanes.specs.TexelRun.{IsTexelRun}
 use Rattle.span_lanes.specs.declared.texel_run.TexelRun.{TexelRun}
 
--- spans in a clip rectangle without a hazard can be drawn
-pub can_draw_row : (setup : TriangleSetup) (b : ClipRect) (span : Span) (m : List ℕ) → IsSetupOf (state_of span) setup
-    → IsClipHazardFree b setup.texture → IsSpan span → LiesIn (height_of m) span → IsInClip b span.x span.y span.n
-    → CanDrawSetup setup span m
-can_draw_row setup b span m ready hazard_free is height clip_rect = record {
-  ready = ready;
-  can = record { span = is; lies = height };
-  hazard_free = hazard_free.hazard_free span (ap texture_of ready.paint) is clip_rect;
-  palette = hazard_free.palette span clip_rect;
+-- a row in a clip rectangle that has no cell of the texture can be drawn
+pub can_draw_free : (b : ClipRect) (span : Span) (m : List ℕ) → IsFreeIn span.paint b → CanDraw span m
+    → IsInClip b span.x span.y span.n → CanDrawRow span m
+can_draw_free b span m is can in_clip = record {
+  can = can;
+  hazard_free = is.hazard_free.hazard_free span is.texture can.span in_clip;
+  clut = rw is.texture (is.hazard_free.palette span in_clip);
 }
 
--- the same under one colour, if the palette can be modulated once
+-- by the set-up of its triangle
+pub can_draw_row : (setup : TriangleSetup) (span : Span) (m : List ℕ) → IsSetupOf (state_of span) setup
+    → CanDrawRow span m → CanDrawSetup setup span m
+can_draw_row setup span m ready row =
+    let texture : texture_of span.paint ≡ Some setup.texture = ap texture_of ready.paint in
+    record { ready = ready; can = row.can; hazard_free = row.hazard_free; palette = rw texture at row.clut }
+
+-- and under its colour, if the CLUT can be coloured once
 pub can_color_row : (setup : TriangleSetup) (span : Span) (m : List ℕ) (color : ℕ) (texel_run : TexelRun)
     → CanDrawSetup setup span m → CanCacheTriangle setup.tri setup.texture setup.brush color
     → IsTexelRun span setup.texture texel_run

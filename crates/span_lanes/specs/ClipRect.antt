@@ -1,10 +1,7 @@
--- Clip rectangles, which contain the spans that are drawn.
+-- Clip rectangles.
 use Rattle.std.specs.Prelude.{ℕ, ◌≡◌, ◌+◌, ◌≤◌, ◌<◌, Some}
 use Rattle.span_lanes.specs.Guard.{IsHazardFree, HasClutInOtherRow}
-use Rattle.span_lanes.specs.SpanDrawer.{SpanDrawerView, new_drawer}
 use Rattle.span_lanes.specs.declared.clip_rect.ClipRect.{ClipRect}
-use Rattle.span_lanes.specs.declared.span.Brush.{Brush}
-use Rattle.span_lanes.specs.declared.span.Paint.{Paint}
 use Rattle.span_lanes.specs.declared.span.Span.{Span}
 use Rattle.span_lanes.specs.Shade.{IsSpan, texture_of}
 use Rattle.texel_lanes.specs.declared.texture.Texture.{Texture}
@@ -16,24 +13,15 @@ pub record IsClipRect (height : ℕ) (b : ClipRect) : Type 0 where
   pub right : b.x + b.w ≤ 1024
   pub bottom : b.y + b.h ≤ height
 
--- the n cells of a row from (x, y) on are in a clip rectangle
+-- n cells of a row from (x, y) on are in a clip rectangle
 pub record IsInClip (b : ClipRect) (x y n : ℕ) : Type 0 where
   pub left : b.x ≤ x
   pub right : x + n ≤ b.x + b.w
   pub top : b.y ≤ y
   pub bottom : y < b.y + b.h
 
--- the spans in a clip rectangle have no hazard. If the palette has sixteen entries, it is in another row than each of
--- them.
+-- the spans in a clip rectangle read nothing that they write, and none has the row of the CLUT, if there is one of
+-- sixteen entries
 pub record IsClipHazardFree (b : ClipRect) (t : Texture) : Type 0 where
   pub hazard_free : (s : Span) → texture_of s.paint ≡ Some t → IsSpan s → IsInClip b s.x s.y s.n → IsHazardFree s
   pub palette : (s : Span) → IsInClip b s.x s.y s.n → HasClutInOtherRow t s.y
-
--- the draw state of a drawer, and the clip rectangle that contains its spans
-pub record BlockDrawerView : Type 0 where
-  pub held : SpanDrawerView
-  pub clip_rect : ClipRect
-
--- a drawer without a cached palette
-abbrev pub new_view_in_clip : Paint → Brush → ClipRect → BlockDrawerView
-new_view_in_clip paint brush clip_rect = record { held = new_drawer (record { paint = paint; brush = brush }); clip_rect = clip_rect }

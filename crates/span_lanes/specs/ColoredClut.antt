@@ -11,7 +11,7 @@ use Rattle.texel_lanes.specs.declared.table.Table.{Table}
 use Rattle.texel_lanes.specs.Texture.{at_cell, clut_row}
 use Rattle.span_lanes.specs.Guard.{IsHazardFree}
 use Rattle.span_lanes.specs.Shade.{modulated_texel, texture_of}
-use Rattle.texel_lanes.specs.Table.{IsTable, entries_in, entry_at}
+use Rattle.texel_lanes.specs.Table.{IsTable, entry_at}
 
 -- the entries of a texture's palette, and each modulated by one colour without dither
 pub record IsColoredClutOf (t : Texture) (m : List ℕ) (colored_clut : ColoredClut) : Type 0 where
@@ -31,18 +31,6 @@ pub record IsColoredClut (colored_clut : ColoredClut) : Type 0 where
 -- the entries of a table are those of the texture's palette in video memory
 abbrev pub AreClutEntries : Texture → List ℕ → Table → Type 0
 AreClutEntries t m entries = EachLane (λ i. entry_at entries i ≡ at_cell m (clut_place t.clut i))
-
--- sixteen entries are those of the texture's palette in video memory
-abbrev pub IsPaletteOf : Texture → (m entries : List ℕ) → Type 0
-IsPaletteOf t m entries = EachLane (λ i. slice_index entries i ≡ at_cell m (clut_place t.clut i))
-
--- the cached entries, if any, are those of the palette of a paint's texture in video memory
-abbrev pub AreClutEntriesFresh : Paint → List ℕ → Option (List ℕ) → Type 0
-AreClutEntriesFresh paint m palette = IfSome palette (λ entries. IfSome (texture_of paint) (λ t. IsPaletteOf t m entries))
-
-abbrev pub entries_of : Option ColoredClut → Option (List ℕ)
-entries_of None = None
-entries_of (Some colored_clut) = Some (entries_in colored_clut.entries)
 
 -- the cached palette, if any, is that of a paint's texture in video memory, modulated by its colour
 pub record IsCached (paint : Paint) (m : List ℕ) (last : Option ColoredClut) : Type 0 where

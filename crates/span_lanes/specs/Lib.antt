@@ -1,4 +1,4 @@
-pub mod BlockDrawer
+pub mod TriangleDrawer
 pub mod Cells
 pub mod Chunk
 pub mod Cost

@@ -1,15 +1,13 @@
 -- Paints that are set up for drawing.
-use Rattle.std.specs.Prelude.{ℕ, ◌≡◌, None, Option, IfSome}
+use Rattle.std.specs.Prelude.{ℕ, ◌≡◌, None}
 use Rattle.span_lanes.specs.declared.paint_setup.PaintSetup.{PaintSetup}
 use Rattle.span_lanes.specs.declared.paint_setup.PaintSetup.TheVariants.{Solid, Untextured, Tri, Row}
-use Rattle.span_lanes.specs.declared.colored_clut.ColoredClut.{ColoredClut}
 use Rattle.span_lanes.specs.Lanes.{IsSolid}
 use Rattle.span_lanes.specs.Paints.{row_paint}
 use Rattle.span_lanes.specs.SpanDrawer.{IsShadingFor, state_span}
 use Rattle.span_lanes.specs.declared.span.DrawState.{DrawState}
 use Rattle.span_lanes.specs.Shade.{texture_of}
 use Rattle.span_lanes.specs.TriangleSetup.{IsSetupOf}
-use Rattle.span_lanes.specs.ColoredClut.{IsColoredClut}
 
 -- the values that all spans of a paint and a brush share
 abbrev pub IsPaintSetup : DrawState → PaintSetup → Type 0
@@ -17,8 +15,3 @@ IsPaintSetup state (Solid h) = (texture_of state.paint ≡ None) × ((x y n : �
 IsPaintSetup state (Untextured shading) = (texture_of state.paint ≡ None) × IsShadingFor state.paint shading
 IsPaintSetup state (Tri setup) = IsSetupOf state setup
 IsPaintSetup state (Row row) = state.paint ≡ row_paint row
-
--- a span drawer has such a setup, and a modulated palette, if one is cached
-pub record IsSpanDrawer (state : DrawState) (made : PaintSetup) (last : Option ColoredClut) : Type 0 where
-  pub ready : IsPaintSetup state made
-  pub colored : IfSome last IsColoredClut

@@ -32,7 +32,7 @@ painted_cells p cells m = drawn_cells (pixel_at p) p.brush.mask cells m
 abbrev pub span_from : Pattern → Cell → (n : ℕ) → Span
 span_from p first n = record { x = first.x; y = first.y; n = n; paint = p.paint first; brush = p.brush }
 
--- a run of cells of row y
+-- the span of a run of row y
 abbrev pub run_span : Pattern → ℕ → Run → Span
 run_span p y run = span_from p (record { x = run.x; y = y }) run.n
 

@@ -8,40 +8,25 @@ use Rattle.span_lanes.specs.declared.span.DrawState.{DrawState}
 use Rattle.span_lanes.specs.declared.span.Paint.{Paint}
 use Rattle.span_lanes.specs.declared.span.Paint.TheVariants.{Flat, Shaded, TexturedTri, TexturedRow}
 use Rattle.span_lanes.specs.declared.span.Span.{Span}
-use Rattle.span_lanes.specs.declared.colored_clut.ColoredClut.{ColoredClut}
 use Rattle.span_lanes.specs.declared.shading.Shading.{Shading}
 use Rattle.span_lanes.specs.declared.shading.Shading.TheVariants.{OneColor, Planes}
 use Rattle.span_lanes.specs.Cells.{Stage, drawn_cells, row_cells}
 use Rattle.span_lanes.specs.Cost.{span_cost}
 use Rattle.span_lanes.specs.Lanes.{IsSolid}
 use Rattle.span_lanes.specs.Shade.{color_in, shade_at}
-use Rattle.span_lanes.specs.ColoredClut.{AreClutEntriesFresh, entries_of}
 
--- a span with a draw state
+-- a span that is drawn with a draw state
 abbrev pub state_span : DrawState → (x y n : ℕ) → Span
 state_span state x y n = record { x = x; y = y; n = n; paint = state.paint; brush = state.brush }
 
 abbrev pub state_of : Span → DrawState
 state_of span = record { paint = span.paint; brush = span.brush }
 
--- the draw state of a drawer, and the sixteen palette entries that it caches, if any
-pub record SpanDrawerView : Type 0 where
-  pub state : DrawState
-  pub palette : Option (List ℕ)
-
 -- the cells of a span were drawn one after another
 pub record DrawsCells (s : Span) (before after : Stage) : Type 0 where
   pub cells : after.m ≡ drawn_cells (shade_at s) s.brush.mask (row_cells s.x s.y s.n) before.m
   pub long : length after.m ≡ length before.m
   pub cost : after.steps ≤ before.steps + span_cost s
-
--- a drawer without a cached palette
-abbrev pub new_drawer : DrawState → SpanDrawerView
-new_drawer state = record { state = state; palette = None }
-
--- the palette that a drawer caches, if any, is equal to the one in video memory
-abbrev pub IsClutFresh : SpanDrawerView → List ℕ → Type 0
-IsClutFresh drawer m = AreClutEntriesFresh drawer.state.paint m drawer.palette
 
 -- ---- setups
 
@@ -69,6 +54,3 @@ HasHalfword (Flat color) brush solid =
 HasHalfword (Shaded tri) brush solid = solid ≡ None
 HasHalfword (TexturedTri tri texture) brush solid = solid ≡ None
 HasHalfword (TexturedRow color texture u v flip) brush solid = solid ≡ None
-
-abbrev pub view_of : Span → Option ColoredClut → SpanDrawerView
-view_of span last = record { state = state_of span; palette = entries_of last }

@@ -7,7 +7,7 @@
 // - `Solid`, in `draw_ready` and `draw_solid`: all cells become one halfword, and nothing is read. [triangle flat]
 // - `Untextured`, in `draw_flat`: one colour that is blended, tested or dithered. [rectangle B+F]
 // - `Untextured`, two in `draw_gouraud`: three channels that change along the row, opaque or not. [triangle gouraud]
-// - `CachedClut<TexelRun>`, in `CachedClutDrawer::draw`: a cached palette and opaque pixels. The loop is inlined into
+// - `CachedClut<TexelRun>`, in `CachedClutMethod::draw_row`: a cached palette and opaque pixels. The loop is inlined into
 //   the loop over the rows. [triangle 4-bit modulated]
 // - `CachedClut<&CoordRamps>` and `Shaded<&CoordRamps>`, in `draw_flat_texels`: texels by coordinates under one colour,
 //   without a hazard. No workload runs them.
@@ -24,9 +24,9 @@
 //   second.
 //
 // Rectangles that cache their palette for all rows have four more loops of `CachedClut<TexelRun>`, in
-// `CachedClutRowsDrawer::draw_row`. [rectangle, sprite 4-bit]
+// `CachedClutRows::draw_row`. [rectangle, sprite 4-bit]
 ghost use Rattle.std.specs.Prelude.{◌≡◌};
-ghost use Rattle.span_lanes.specs.BlockDrawer.{AreContiguous};
+ghost use Rattle.span_lanes.specs.TriangleDrawer.{AreContiguous};
 ghost use Rattle.span_lanes.specs.Draws.{CanDraw, DrawsSpan, at_stage};
 ghost use Rattle.span_lanes.specs.Guard.{HasClutInOtherRow};
 ghost use Rattle.span_lanes.specs.CachedClut.{CanTakeTexels};

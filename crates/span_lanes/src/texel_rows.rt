@@ -1,19 +1,19 @@
-// Rows of texels in a clip rectangle.
-ghost use Rattle.std.specs.Prelude.{ℕ, ◌≡◌, IsTrue, false};
+// Rows of texels of a rectangle.
+ghost use Rattle.std.specs.Prelude.{ℕ, ◌≡◌, ◌≤◌, ◌+◌, IsTrue, false};
 ghost use Rattle.texel_lanes.specs.Texture.{IsTexture};
 ghost use Rattle.span_lanes.specs.ClipRect.{IsClipRect};
 ghost use Rattle.span_lanes.specs.TexelRun.{IsTexelRun};
-ghost use Rattle.span_lanes.specs.TexelRows.{IsRowOf, CanCacheRows, texel_span};
+ghost use Rattle.span_lanes.specs.TexelRows.{IsRowOf, CanCacheRows, texel_row, texel_span};
 
 use crate::hazard_free::is_clip_hazard_free;
 use crate::opaque::{is_opaque, opaque_brush};
 use crate::row_shading::has_undithered_clut16;
-use crate::texel_row::TexelRow;
+use crate::texel_row::{TexelRow, row_u};
 use crate::texel_run::{TexelRun, does_not_wrap, is_unwindowed, run_at_coords};
 use crate::texel_run_rows::with_raw;
 use crate::{Brush, ClipRect, Paint, Span, Texture};
 
-/// Rows of texels that fill a clip rectangle. All start at the same column of the page.
+/// Rows of texels for the rows of a clip rectangle, all from one column of the texture page on.
 #[derive(Clone, Copy)]
 pub struct TexelRows {
     /// The colour.
@@ -24,14 +24,18 @@ pub struct TexelRows {
     pub u: u8,
     /// Whether the column decreases by 1 from cell to cell, instead of increasing by 1. It wraps at 256.
     pub flip: bool,
-    /// The pixel settings.
+    /// The row of the first row's texels within the texture page.
+    pub v: u8,
+    /// Whether that row falls by one from row to row, instead of rising by one; it wraps at 256.
+    pub falls: bool,
+    /// The blending mode, mask setting and dither.
     pub brush: Brush,
     /// The clip rectangle.
     pub clip_rect: ClipRect,
 }
 
 impl TexelRows {
-    // Returns the span of row `y` of the clip rectangle, with the texels of row `v` of the page.
+    // Returns row `y` of the clip rectangle, with the texels of row `v` of the page.
     #[inline(always)]
     pub(crate) fn span(&self, y: u16, v: u8) -> Span
         ensures { result ≡ texel_span self.now y v }
@@ -51,7 +55,17 @@ impl TexelRows {
         }
     }
 
-    // Returns the texels of row `v` of the page.
+    // Returns the row of the page whose texels row `y` of the clip rectangle has.
+    #[inline(always)]
+    pub(crate) fn texel_row(&self, y: u16) -> u8
+        requires below { self.now.clip_rect.y ≤ y }
+        requires near { y ≤ self.now.clip_rect.y + 1024 }
+        ensures { result ≡ texel_row self.now y }
+    {
+        row_u(self.v, self.falls, y - self.clip_rect.y)
+    }
+
+    // Returns row `v` of the page.
     #[inline(always)]
     pub(crate) fn row_at(&self, v: u8) -> TexelRow
         ensures row { IsRowOf self.now result }
@@ -66,8 +80,7 @@ impl TexelRows {
         }
     }
 
-    // Returns the run of the texels of row `v` of the page, for any row of the clip rectangle.
-    // [`TexelRows::can_cache_clut`] must be true.
+    // Returns where the contiguous texels of row `v` of the page are, for any row of the clip rectangle.
     #[inline(always)]
     pub(crate) fn texel_run(&self, v: u8) -> TexelRun
         requires keeps { CanCacheRows self.now }
@@ -77,10 +90,9 @@ impl TexelRows {
         run_at_coords(&self.texture, self.u, v)
     }
 
-    /// Returns true only if a palette of sixteen entries can be modulated once for all rows. Their texels are then
-    /// contiguous, and no span in the clip rectangle has a hazard.
-    /// [`CachedClutRowsDrawer`](crate::CachedClutRowsDrawer) draws such rows, [`AnyRowsDrawer`](crate::AnyRowsDrawer)
-    /// any. The clip rectangle must be within 1024 rows, page and window within their limits.
+    /// Returns whether the texels of each row are contiguous, their CLUT has sixteen entries and can be coloured once, and
+    /// the clip rectangle has none of their cells. [`CachedClutRows`](crate::CachedClutRows) draws such rows, and
+    /// [`AnyRows`](crate::AnyRows) all.
     pub fn can_cache_clut(&self) -> bool
         requires clip_rect { IsClipRect 1024 self.now.clip_rect }
         requires texture { IsTexture self.now.texture }
@@ -97,8 +109,7 @@ impl TexelRows {
             && is_clip_hazard_free(&self.clip_rect, &self.texture)
     }
 
-    /// Returns the same rows. `raw` must be the texture's. The compiler then knows its value, and makes a separate
-    /// loop.
+    /// Returns these rows. The compiler then knows whether they are raw, and makes a loop for that case.
     #[inline(always)]
     pub fn known_raw(&self, raw: bool) -> TexelRows
         requires { self.now.texture.raw ≡ raw }
@@ -110,7 +121,7 @@ impl TexelRows {
         }
     }
 
-    /// Returns whether pixels are opaque: neither blended nor tested, and without a forced bit 15.
+    /// Returns whether pixels are neither blended nor tested, and no mask bit is set.
     #[inline(always)]
     pub fn is_opaque(&self) -> bool
         ensures mask { IsTrue result → self.now.brush.mask ≡ 0 }
@@ -119,7 +130,7 @@ impl TexelRows {
         is_opaque(&self.brush)
     }
 
-    /// Returns the same rows, whose pixels must be opaque. The compiler then knows this, and makes a separate loop.
+    /// Returns these rows. The compiler then knows that they are opaque.
     #[inline(always)]
     pub fn known_opaque(&self) -> TexelRows
         requires mask { self.now.brush.mask ≡ 0 }

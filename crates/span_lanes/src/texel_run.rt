@@ -7,7 +7,7 @@ ghost use Rattle.span_lanes.specs.Paints.{row_paint};
 ghost use Rattle.span_lanes.specs.SpanDrawer.{state_of};
 ghost use Rattle.span_lanes.specs.TriangleSetup.{IsSetupOf};
 ghost use Rattle.span_lanes.specs.TexelRun.{IsRising, IsTexelRun};
-ghost use Rattle.span_lanes.specs.BlockDrawer.{AreContiguous};
+ghost use Rattle.span_lanes.specs.TriangleDrawer.{AreContiguous};
 
 use crate::coord_planes::value_of;
 use crate::texel_row::TexelRow;

@@ -3,5 +3,4 @@ use Rattle.span_lanes.proofs.span_drawer.SpanDrawerRowDrawer.draw.Goals as goal
 
 pub returns-clause-drawn : goal.returns-clause-drawn
 returns-clause-drawn g c =
-    rw (← c.self.view_is)
-    (draws_cells _ _ _ c.draw_ready.ensures.drawn)
+    draws_cells _ _ _ c.draw_ready.ensures.drawn

@@ -1,0 +1,24 @@
+use Rattle.std.proofs.Common.{refl}
+use Rattle.span_lanes.specs.TexelRows.{texel_span}
+use Rattle.span_lanes.proofs.rectangle_drawer.CachedClutRowsTexelRowsMethod.draw_row.Goals as goal
+
+pub draw_cached-requires-clause-can : goal.draw_cached-requires-clause-can
+draw_cached-requires-clause-can g c =
+    let rows = c.args.rows.now in
+    let keeps = c.requires.ready.0 in
+    let asked = c.requires.can in
+    rw c.span-span.ensures
+    (record {
+      sample = record { can = asked.can; texture = refl };
+      suits = record {
+        hazard_free = keeps.hazard_free.hazard_free _ refl asked.can.span asked.in_block;
+        depth = keeps.depth;
+        row = keeps.hazard_free.palette (texel_span rows c.args.y c.args.v) asked.in_block keeps.depth;
+        even = keeps.even;
+      };
+      finds = c.texel_run-texel_run.ensures c.args.y;
+      hue = λ at j lane lt. refl;
+    })
+
+pub returns-clause-drawn : goal.returns-clause-drawn
+returns-clause-drawn g c = rw c.span-span.ensures at c.draw_cached.ensures.drawn

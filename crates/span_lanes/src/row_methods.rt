@@ -1,0 +1,62 @@
+// How the rows of a textured triangle are drawn.
+ghost use Rattle.std.specs.Prelude.{◌≡◌, IfSome, IsTrue, false};
+ghost use Rattle.texel_lanes.specs.Texture.{IsTexture};
+ghost use Rattle.span_lanes.specs.TriangleDrawer.{AreContiguous, SuitsMethod};
+ghost use Rattle.span_lanes.specs.ClipRect.{IsClipRect};
+
+use crate::hazard_free::is_clip_hazard_free;
+use crate::opaque::is_opaque;
+use crate::row_shading::has_undithered_clut16;
+use crate::shading::one_color;
+use crate::texel_run::does_not_wrap;
+use crate::{Brush, ClipRect, Texture};
+use edge_walk::Tri;
+
+/// How the rows of a triangle are drawn that read nothing that they write.
+#[derive(Clone, Copy)]
+pub enum RowMethod {
+    /// Contiguous texels of four bits under one colour: the CLUT is coloured once, and no pixel is blended or tested
+    /// ([`CachedClutMethod`](crate::CachedClutMethod)).
+    CachedClut { color: u32 },
+    /// Contiguous texels ([`ContiguousMethod`](crate::ContiguousMethod)).
+    Contiguous,
+    /// Texels by their coordinates, under one colour ([`FlatTexelsMethod`](crate::FlatTexelsMethod)).
+    FlatTexelsByCoords { color: u32 },
+    /// Texels by their coordinates, under several colours ([`GouraudTexelsMethod`](crate::GouraudTexelsMethod)).
+    GouraudTexels,
+}
+
+// Whether the texels of each row are known to be contiguous.
+#[inline(always)]
+fn is_contiguous(tri: &Tri, texture: &Texture) -> bool
+    requires { IsTexture texture.now }
+    ensures { IsTrue result → AreContiguous tri.now texture.now }
+{
+    let room = does_not_wrap(texture, 0, 256);
+    tri.is_unscaled() && texture.window.mask_x == 0 && room
+}
+
+/// Returns how the rows of a triangle are drawn in a clip rectangle. `None` if that may have a cell of the texture page
+/// or the CLUT: then [`SpanDrawer`](crate::SpanDrawer) draws them.
+#[inline(always)]
+pub fn row_method(
+    tri: &Tri,
+    texture: &Texture,
+    brush: &Brush,
+    clip_rect: &ClipRect,
+) -> Option<RowMethod>
+    requires clip_rect { IsClipRect 1024 clip_rect.now }
+    requires texture { IsTexture texture.now }
+    ensures { IfSome result (SuitsMethod tri.now texture.now brush.now clip_rect.now) }
+{
+    if !is_clip_hazard_free(clip_rect, texture) {
+        return None;
+    }
+    let opaque = has_undithered_clut16(texture, brush) && is_opaque(brush);
+    Some(match (one_color(tri), is_contiguous(tri, texture)) {
+        (Some(color), true) if opaque => RowMethod::CachedClut { color },
+        (_, true) => RowMethod::Contiguous,
+        (Some(color), false) => RowMethod::FlatTexelsByCoords { color },
+        (None, false) => RowMethod::GouraudTexels,
+    })
+}

@@ -1,0 +1,95 @@
+// Drawers of the rows of textured triangles.
+ghost use Rattle.std.specs.Prelude.{ℕ, ◌≡◌, List};
+ghost use Rattle.span_lanes.specs.ClipRect.{IsClipHazardFree};
+ghost use Rattle.span_lanes.specs.SpanDrawer.{state_of};
+ghost use Rattle.span_lanes.specs.TriangleDrawer.{IsFreeIn, textured_state};
+
+use crate::span::empty_span;
+use crate::{Brush, ClipRect, RowDrawer, Run, Span, Texture};
+use edge_walk::Tri;
+use std::sync::ledger::Ledger;
+use vram_store::{Steps, Vram};
+
+/// How the texels of a triangle's rows are drawn, each row reading nothing that it writes.
+pub trait TexelMethod: Drop {
+    ghost use Rattle.std.specs.Prelude.{ℕ, List};
+    ghost use Rattle.edge_walk.specs.Triangle.{Corners};
+    ghost use Rattle.texel_lanes.specs.declared.texture.Texture.{Texture};
+    ghost use Rattle.span_lanes.specs.Draws.{DrawsSpan, at_stage};
+    ghost use Rattle.span_lanes.specs.SpanDrawer.{state_of};
+    ghost use Rattle.span_lanes.specs.TriangleDrawer.{CanDrawRow, textured_state};
+    ghost use Rattle.span_lanes.specs.declared.span.Brush.{Brush};
+    ghost use Rattle.span_lanes.specs.declared.span.DrawState.{DrawState};
+
+    // The triangles, textures and brushes that it is for, with the one colour of all cells, if it needs that.
+    ghost accepts: { Corners → Texture → Brush → ℕ → Type 0 };
+
+    // Holds if it was made for a draw state, and the CLUT that it caches, if any, is the one in video memory.
+    ghost ready: { Self → DrawState → List ℕ → Type 0 };
+
+    /// Computes what is equal for all rows.
+    fn new(tri: &Tri, texture: &Texture, brush: &Brush, color: u32) -> Self
+        requires { accepts tri.now texture.now brush.now color }
+        ensures { (m : List ℕ) → ready result (textured_state tri.now texture.now brush.now) m };
+
+    /// Draws a row.
+    fn draw_row<L: Ledger>(&mut self, vram: &mut Vram, span: &Span, steps: &mut Steps<L>)
+        requires row { CanDrawRow span.now vram.old }
+        requires ready { ready self.old (state_of span.now) vram.old }
+        ensures drawn { DrawsSpan span.now 0 (at_stage vram.old steps.old) (at_stage vram.new steps.new) }
+        ensures ready { ready self.new (state_of span.now) vram.new };
+}
+
+/// Draws the rows of a textured triangle in a clip rectangle that has no cell of the texture page or the CLUT.
+#[derive(Drop)]
+pub struct TriangleDrawer<M> {
+    // the last row that was drawn; at first one of no cells
+    span: Span,
+    clip: ClipRect,
+    method: M,
+}
+
+impl<M: TexelMethod> TriangleDrawer<M> {
+    /// Computes what is equal for all rows. `color` is the one colour of all cells, if the method needs that.
+    #[inline(always)]
+    pub fn new(
+        tri: &Tri,
+        texture: &Texture,
+        brush: &Brush,
+        clip: &ClipRect,
+        color: u32,
+    ) -> TriangleDrawer<M>
+        requires accepts { M.accepts tri.now texture.now brush.now color }
+        requires hazard_free { IsClipHazardFree clip.now texture.now }
+        ensures state { state_of result.span ≡ textured_state tri.now texture.now brush.now }
+        ensures clip { result.clip ≡ clip.now }
+        ensures free { IsFreeIn result.span.paint result.clip }
+        ensures ready { (m : List ℕ) → M.ready result.method (state_of result.span) m }
+    {
+        TriangleDrawer {
+            span: empty_span(tri, texture, brush),
+            clip: *clip,
+            method: M::new(tri, texture, brush, color),
+        }
+    }
+}
+
+impl<M: TexelMethod> RowDrawer for TriangleDrawer<M> {
+    ghost use Rattle.span_lanes.specs.Pattern.{LiesInClip, uniform};
+    ghost use Rattle.span_lanes.specs.SpanDrawer.{state_of};
+    ghost use Rattle.span_lanes.specs.TriangleDrawer.{IsFreeIn};
+
+    ghost pattern = { λ drawer. uniform (state_of drawer.span) };
+
+    ghost reaches = { λ drawer. LiesInClip drawer.clip };
+
+    ghost fresh = { λ drawer m. IsFreeIn drawer.span.paint drawer.clip × M.ready drawer.method (state_of drawer.span) m };
+
+    #[inline(always)]
+    fn draw<L: Ledger>(&mut self, vram: &mut Vram, run: Run, y: u16, steps: &mut Steps<L>) {
+        self.span.x = run.x;
+        self.span.y = y;
+        self.span.n = run.n;
+        self.method.draw_row(vram, &self.span, steps);
+    }
+}
