@@ -2,4 +2,3 @@ pub mod BiasLemmas
 pub mod MeanLemmas
 pub mod Offsets
 pub mod SumLemmas
-pub mod ModulateLemmas

@@ -1,5 +1,5 @@
 // Operations on sixteen lanes that only colours need.
-ghost use Rattle.std.specs.Prelude.{◌≡◌, ◌≤◌, ◌<◌, ◌*◌, ◌/◌, ◌%◌, ◌^◌, length, slice_index, slice_index_or, pos};
+ghost use Rattle.std.specs.Prelude.{◌≡◌, ◌<◌, ◌/◌, ◌%◌, length, slice_index, slice_index_or, pos};
 ghost use Rattle.std.specs.Int.RustNames.{bit_xor};
 ghost use Rattle.px_num.specs.Lanes.{EachLane};
 ghost use Rattle.blend_dither.specs.Color.{IsShift, packed};
@@ -7,6 +7,15 @@ ghost use Rattle.blend_dither.specs.Bias.{IsBias};
 
 use px_num::lanes::{add, low_bits, mul, shifted_down, splat};
 use std::simd::prelude::*;
+
+/// Returns the low five bits of each lane.
+pub fn low5(a: u16x16) -> u16x16
+    requires { length a ≡ 16 }
+    ensures long { length result ≡ 16 }
+    ensures value { EachLane (λ i. slice_index result i ≡ slice_index a i % 32) }
+{
+    a & u16x16::splat(31)
+}
 
 /// Returns each dither offset (-4 to 3) plus 4, which is 0 to 7.
 pub fn biased(shifts: i16x16) -> u16x16
@@ -40,56 +49,4 @@ pub fn low_ones(a: u16x16) -> u16x16
     let green = mul(low_bits(shifted_down(a, 5), 1), splat(32));
     let blue = mul(low_bits(shifted_down(a, 10), 1), splat(1024));
     add(add(low_bits(a, 1), green), blue)
-}
-
-// Returns the same numbers in lanes of 32 bits.
-#[inline(always)]
-fn widened(a: u16x16) -> u32x16
-    requires { length a ≡ 16 }
-    ensures long { length result ≡ 16 }
-    ensures value { EachLane (λ i. slice_index result i ≡ slice_index a i) }
-{
-    a.cast::<u32>()
-}
-
-// Returns the products, which fit.
-#[inline(always)]
-fn product(a: u32x16, b: u32x16) -> u32x16
-    requires { EachLane (λ i. slice_index a i * slice_index b i < 2 ^ 32) }
-    ensures long { length result ≡ 16 }
-    ensures value { EachLane (λ i. slice_index result i ≡ slice_index a i * slice_index b i) }
-{
-    a.strict_mul(b)
-}
-
-// Returns each lane divided by 2^16.
-#[inline(always)]
-fn divided(a: u32x16) -> u32x16
-    requires { length a ≡ 16 }
-    ensures long { length result ≡ 16 }
-    ensures value { EachLane (λ i. slice_index result i ≡ slice_index a i / 2 ^ 16) }
-{
-    a >> u32x16::splat(16)
-}
-
-// Returns the same numbers in lanes of 16 bits.
-#[inline(always)]
-fn narrowed(a: u32x16) -> u16x16
-    requires long { length a ≡ 16 }
-    requires fits { EachLane (λ i. slice_index a i ≤ 65535) }
-    ensures long { length result ≡ 16 }
-    ensures value { EachLane (λ i. slice_index result i ≡ slice_index a i) }
-{
-    a.cast::<u16>()
-}
-
-/// Returns the products of 32 bits divided by 2^16. The processor has one instruction for it.
-#[inline(always)]
-#[tactic(auto, using(crate::proofs::ModulateLemmas::fits_32))]
-pub fn high_products(a: u16x16, b: u16x16) -> u16x16
-    requires { (length a ≡ 16) × (length b ≡ 16) }
-    ensures long { length result ≡ 16 }
-    ensures value { EachLane (λ i. slice_index result i ≡ slice_index a i * slice_index b i / 2 ^ 16) }
-{
-    narrowed(divided(product(widened(a), widened(b))))
 }

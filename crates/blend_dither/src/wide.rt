@@ -3,14 +3,11 @@ ghost use Rattle.std.specs.Prelude.{◌≡◌, ◌≤◌, ◌<◌, ◌+◌, ◌-
 ghost use Rattle.std.specs.Prelude.{pos};
 ghost use Rattle.px_num.specs.Lanes.{EachLane};
 ghost use Rattle.blend_dither.specs.Color.{IsShift, tone_of, packed, modulated_of, blended_of};
-ghost use Rattle.blend_dither.specs.Color.{red5_of, green5_of, blue5_of};
 
-use crate::lanes::{biased, high_products};
+use crate::lanes::{biased, low5};
 use crate::mean::mean_lanes;
 use crate::sum::{added_lanes, quarter_added_lanes, subtracted_lanes};
-use px_num::lanes::{
-    add, low_bits, mul, shifted_down, smaller, splat, sub_or_zero, wrapping_mul, wrapping_sub,
-};
+use px_num::lanes::{add, mul, shifted_down, smaller, splat, sub_or_zero};
 use std::simd::prelude::*;
 
 /// Returns [`tone`](crate::tone) in each lane, with dither offsets `shifts`. The channels must be at most 255.
@@ -73,9 +70,9 @@ pub fn modulate_lanes(
 {
     let bias = biased(shifts);
     pack_lanes(
-        shifted_lanes(modulated_red(texels, red), bias),
-        shifted_lanes(modulated_green(texels, green), bias),
-        shifted_lanes(modulated_blue(texels, blue), bias),
+        modulated_lanes(low5(texels), red, bias),
+        modulated_lanes(low5(shifted_down(texels, 5)), green, bias),
+        modulated_lanes(low5(shifted_down(texels, 10)), blue, bias),
     )
 }
 
@@ -124,37 +121,15 @@ fn shifted_lanes(channels: u16x16, bias: u16x16) -> u16x16
     shifted_down(smaller(lowered, splat(255)), 3)
 }
 
-// Returns `8 * texel * red / 128` of the red channel of each texel.
-fn modulated_red(texels: u16x16, red: u16x16) -> u16x16
-    requires long { (length texels ≡ 16) × (length red ≡ 16) }
-    requires low { EachLane (λ i. slice_index red i ≤ 255) }
+fn modulated_lanes(texels: u16x16, colors: u16x16, bias: u16x16) -> u16x16
+    requires long { (length texels ≡ 16) × (length colors ≡ 16) × (length bias ≡ 16) }
+    requires low { EachLane (λ i. (slice_index texels i < 32) × (slice_index colors i ≤ 255)
+        × (slice_index bias i < 8)) }
     ensures long { length result ≡ 16 }
-    ensures value { EachLane (λ i. slice_index result i ≡ 8 * red5_of (slice_index texels i) * slice_index red i / 128) }
-    ensures low { EachLane (λ i. slice_index result i < 512) }
+    ensures value { EachLane (λ i. slice_index result i
+        ≡ min (8 * slice_index texels i * slice_index colors i / 128 + slice_index bias i - 4) 255 / 8) }
 {
-    high_products(wrapping_mul(texels, splat(2048)), mul(red, splat(2)))
-}
-
-// Returns `8 * texel * green / 128` of the green channel of each texel.
-fn modulated_green(texels: u16x16, green: u16x16) -> u16x16
-    requires long { (length texels ≡ 16) × (length green ≡ 16) }
-    requires low { EachLane (λ i. slice_index green i ≤ 255) }
-    ensures long { length result ≡ 16 }
-    ensures value { EachLane (λ i. slice_index result i ≡ 8 * green5_of (slice_index texels i) * slice_index green i / 128) }
-    ensures low { EachLane (λ i. slice_index result i < 512) }
-{
-    let in_place = wrapping_sub(low_bits(texels, 10), low_bits(texels, 5));
-    high_products(in_place, mul(green, splat(128)))
-}
-
-// Returns `8 * texel * blue / 128` of the blue channel of each texel.
-fn modulated_blue(texels: u16x16, blue: u16x16) -> u16x16
-    requires long { (length texels ≡ 16) × (length blue ≡ 16) }
-    requires low { EachLane (λ i. slice_index blue i ≤ 255) }
-    ensures long { length result ≡ 16 }
-    ensures value { EachLane (λ i. slice_index result i ≡ 8 * blue5_of (slice_index texels i) * slice_index blue i / 128) }
-    ensures low { EachLane (λ i. slice_index result i < 512) }
-{
-    let in_place = wrapping_sub(low_bits(texels, 15), low_bits(texels, 10));
-    high_products(in_place, mul(blue, splat(4)))
+    let eightfold = mul(splat(8), texels);
+    let product = mul(eightfold, colors);
+    shifted_lanes(shifted_down(product, 7), bias)
 }
