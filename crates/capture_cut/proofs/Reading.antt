@@ -3,6 +3,7 @@ use Rattle.std.proofs.Common.{◌≡◌, ◌≤◌, ◌++◌, ℕ, List, [], ◌
 use Rattle.std.proofs.Common.{false, true, refl, sym, ◌∙◌}
 use Rattle.dev_io.specs.Device.{prepended}
 use Rattle.dev_io.proofs.Parts.{prepended-nil, taken_on}
+use Rattle.gpu_capture.specs.Capture.{capture}
 use Rattle.gpu_capture.specs.Reader.{Takes, StopsAt, IsStart, IsReadFault, capture_from, reader_input}
 use Rattle.gpu_capture.specs.declared.event.Event.{Event}
 use Rattle.gpu_capture.specs.declared.event.Stop.{Stop}
@@ -18,7 +19,7 @@ pub read_none : (left : Option (List ℕ)) (p : Progress) → IsStart p → HasR
 read_none left p is = record {
   bytes = prepended-nil left;
   says = λ rest. rw is.version refl;
-  needed = none_needed [] refl;
+  needed = none_needed capture;
 }
 
 -- one more event
@@ -28,8 +29,8 @@ pub read_on : (before mid now : Option (List ℕ)) (old new : Progress) (xs : Li
     → HasRead before now new (xs ++ takes.taken) (events ++ given ∷ [])
 read_on before mid now old new xs events given was takes = record {
   bytes = taken_on before mid now xs takes.taken was.bytes takes.bytes;
-  says = λ rest. says_on old new events given xs takes.taken rest was.says takes.says;
-  needed = needed_on old events given xs takes.taken was.says was.needed takes.needed;
+  says = says_on capture old new events (given ∷ []) xs takes.taken was.says takes.says;
+  needed = needed_on capture old events given xs takes.taken was.says was.needed takes.needed;
 }
 
 -- what the format says of the bytes that a `Way` has read
@@ -52,8 +53,9 @@ pub stops_after : (before mid now : Option (List ℕ)) (old new : Progress) (xs 
     → HasRead before mid old xs (events_of way) → (stops : StopsAt (reader_input old mid) (reader_input new now) stop)
     → way.version ≡ new.version → way.taken ≡ xs ++ stops.taken → StopsAfter way stop now
 stops_after before mid now old new xs stop way was stops same taken = record {
-  says = stop_says old (said_of way) way.taken xs stops.taken now stop taken was.says (rw same stops.says);
-  needed = rw taken (needed_end old (events_of way) xs stops.taken was.says was.needed stops.needed);
+  says = rw taken
+      (stop_says capture old (said_of way) xs stops.taken now stop was.says (rw same stops.says));
+  needed = rw taken (needed_end capture old (events_of way) xs stops.taken was.says was.needed stops.needed);
 }
 
 -- ---- what the reader returns next

@@ -1,11 +1,8 @@
 pub mod Alike
 pub mod Allows
-pub mod AtOnce
-pub mod Awaiting
 pub mod Controls
 pub mod Counts
 pub mod Following
-pub mod Lacking
 pub mod Output
 pub mod Passes
 pub mod Pieces
@@ -13,3 +10,6 @@ pub mod PlayedWords
 pub mod Ports
 pub mod Putting
 pub mod Stopping
+pub mod Taking
+pub mod TakingWords
+pub mod Translating

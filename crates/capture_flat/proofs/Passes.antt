@@ -115,10 +115,6 @@ due_known version t rig now event asked before following played ram stands is pl
     let flat = flat_is t rig now event asked plays.shown before following stands is plays.step in
     rw (was, after, flat, ← stands.played) refl
 
-pub number_is : (t : Replay) (rig : RigState) (played number : ℕ) → StandsFor rig t → played ≡ rig.played
-    → number ≡ next_number played → number ≡ next_number t.played
-number_is t rig played number stands was is = is ∙ ap next_number (was ∙ sym stands.played)
-
 -- the size of the file with these bytes
 pub due_length : (size bytes : ℕ) (xs ys : List ℕ) → bytes ≡ length xs → xs ≡ ys → size + bytes ≡ size + length ys
 due_length size bytes xs ys count same = rw (← same) (ap (λ n. size + n) count)

@@ -1,3 +1,4 @@
+pub mod Ended
 pub mod Film
 pub mod Flat
 pub mod Laws
@@ -5,3 +6,4 @@ pub mod OneEvent
 pub mod Out
 pub mod Passing
 pub mod Records
+pub mod Taking

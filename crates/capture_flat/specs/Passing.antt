@@ -1,6 +1,6 @@
 -- A flat capture that is written event by event (our own rule).
 use Rattle.std.specs.Prelude.{◌≡◌, ◌≤◌, ◌<◌, ◌⊎◌, ℕ, List, [], ◌∷◌, ◌++◌, ◌+◌, Err, length}
-use Rattle.dev_io.specs.Device.{prepended, appended, AppendsPart, Rose}
+use Rattle.dev_io.specs.Device.{prepended, appended, AppendsPart}
 use Rattle.gpu_capture.specs.Capture.{capture, limit}
 use Rattle.gpu_capture.specs.Reading.{AreFewAfter, AreNeeded, AreNeededToEnd, Said, SaysFirst, SaysStop}
 use Rattle.gpu_capture.specs.Written.{spelled_end, AllowsAll}
@@ -162,10 +162,3 @@ MayWriteFault ending = ⊥
 abbrev pub IsEnding : FlatEnding → Type 0
 IsEnding (Stopped number End) = ⊥
 IsEnding ending = Unit {0}
-
--- An ending of code that only writes. `before`, `now`: how often the sink has failed. It is no fault of the source, and
--- a fault of the sink only if the sink failed.
-pub record EndsWriting (before now : ℕ) (ending : FlatEnding) : Type 0 where
-  pub known : IsEnding ending
-  pub read : MayReadFault ending → ⊥
-  pub cause : MayWriteFault ending → Rose before now

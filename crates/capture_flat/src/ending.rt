@@ -1,4 +1,9 @@
 // How a flat capture ends.
+ghost use Rattle.std.specs.Prelude.{◌≡◌};
+ghost use Rattle.capture_flat.specs.Ended.{flat_ending, refused_as};
+
+use crate::refusal::FlatRefusal;
+use event_loop::Ended;
 use event_play::EventFault;
 use gpu_capture::Stop;
 
@@ -16,4 +21,26 @@ pub enum FlatEnding {
     /// This event was played, and its output was not written completely. If the output at End is incomplete, `event` is
     /// the number of the next event.
     WriteFailed { event: u64 },
+}
+
+/// Returns the ending of the loop as the ending of a flat capture.
+pub(crate) fn flat_ending(ended: Ended<FlatRefusal>) -> FlatEnding
+    ensures { result ≡ flat_ending ended }
+{
+    match ended {
+        Ended::Done => FlatEnding::Done,
+        Ended::Stopped { event, stop } => FlatEnding::Stopped { event, stop },
+        Ended::Refused { why } => refused_as(why),
+        Ended::WriteFailed { event } => FlatEnding::WriteFailed { event },
+    }
+}
+
+// Returns a refusal as the ending of a flat capture.
+fn refused_as(why: FlatRefusal) -> FlatEnding
+    ensures { result ≡ refused_as why }
+{
+    match why {
+        FlatRefusal::Fault { event, fault } => FlatEnding::Faulted { event, fault },
+        FlatRefusal::TooMuch { event } => FlatEnding::TooLong { event },
+    }
 }

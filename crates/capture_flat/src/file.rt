@@ -1,6 +1,4 @@
 // The file that is written.
-use gathered_out::OutputBuffer;
-
 /// The maximum length of the file in bytes.
 pub(crate) const LIMIT: u32 = 1 << 30;
 
@@ -9,11 +7,4 @@ pub(crate) const LIMIT: u32 = 1 << 30;
 pub struct FlatFile {
     pub version: u8,
     pub size: u32,
-}
-
-/// The file, and those of its records that are buffered and not yet written.
-#[derive(Drop)]
-pub(crate) struct Draft {
-    pub file: FlatFile,
-    pub buffered: OutputBuffer,
 }

@@ -9,8 +9,9 @@ mod ending;
 mod file;
 pub mod laws;
 mod pass;
+mod passage;
+mod refusal;
 mod spell;
-mod stop;
 mod whole;
 
 pub use ending::FlatEnding;

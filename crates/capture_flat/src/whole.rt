@@ -1,5 +1,5 @@
 // Reads, plays and writes a whole capture.
-ghost use Rattle.std.specs.Prelude.{◌≡◌, ◌≤◌, [], map};
+ghost use Rattle.std.specs.Prelude.{◌≡◌, ◌≤◌, map};
 ghost use Rattle.dev_io.specs.Device.{Rose};
 ghost use Rattle.event_play.specs.Replay.{Replay, from_state, raised};
 ghost use Rattle.event_play.specs.RigState.{Stands, StandsFor};
@@ -7,15 +7,13 @@ ghost use Rattle.event_play.specs.Step.{Machine};
 ghost use Rattle.event_play.specs.Streams.{streams};
 ghost use Rattle.capture_flat.specs.Passing.{EndsFlat, MayReadFault, MayWriteFault, IsEnding};
 
-use crate::block::{pass_words, words_at_once};
-use crate::ending::FlatEnding;
-use crate::file::{Draft, FlatFile};
-use crate::pass::pass_event;
-use crate::stop::{end_after, end_reading};
+use crate::ending::{FlatEnding, flat_ending};
+use crate::file::FlatFile;
+use crate::passage::Flattening;
 use dev_io::{Sink, Source};
-use event_play::{Rig, write_at_pause};
-use gathered_out::OutputBuffer;
-use gpu_capture::{EventReader, WordBlock};
+use event_loop::pass_all;
+use event_play::Rig;
+use gpu_capture::EventReader;
 use gpu_taps::Listener;
 use std::sync::ledger::Ledger;
 use vram_store::Steps;
@@ -55,59 +53,46 @@ pub fn flat<S: Source, K: Sink, T: Listener, L: Ledger>(
     ensures read_faults { S.faults source.old ≤ S.faults source.new }
     ensures write_faults { K.faults out.old ≤ K.faults out.new }
 {
-    let mut block = WordBlock::new();
-    let mut reader = EventReader::new();
-    let mut next = reader.next(source);
-    let version = reader.version();
-    raise(rig, version);
-    let mut draft = first_draft(version);
-    let mut since = 0;
-    'events: loop {
-        match next {
-            Ok(event) => {
-                match pass_event(rig, &event, &mut draft, out, taps, steps) {
-                    Ok(()) => {}
-                    Err(ending) => return end_after(ending, &mut draft.buffered, out),
-                }
-                match write_at_pause(&reader, source, since, &mut draft.buffered, out) {
-                    Ok(offset) => since = offset,
-                    Err(event) => return FlatEnding::WriteFailed { event },
-                }
-                let most = words_at_once(&reader, source, since, draft.file.size);
-                if most > 0 {
-                    let read = reader.words(source, most, &mut block);
-                    let words = block.as_slice();
-                    if let Err(event) = pass_words(rig, words, &mut draft, out, taps, steps) {
-                        return FlatEnding::WriteFailed { event };
-                    }
-                    if let Err(stop) = read {
-                        return end_reading(stop, &mut draft, rig.played(), out);
-                    }
-                    match write_at_pause(&reader, source, since, &mut draft.buffered, out) {
-                        Ok(offset) => since = offset,
-                        Err(lacking) => return FlatEnding::WriteFailed { event: lacking },
-                    }
-                }
-                next = reader.next(source);
-            }
-            Err(stop) => return end_reading(stop, &mut draft, rig.played(), out),
-        }
-    }
+    let file = FlatFile {
+        version: 0,
+        size: 0,
+    };
+    let flattening = &mut Flattening {
+        rig,
+        taps,
+        steps,
+        file,
+    };
+    flatten(flattening, source, out)
 }
 
-// Returns the empty file for a capture of this version.
-fn first_draft(version: u8) -> Draft
-    ensures file { result.file ≡ record { version = version; size = 0 } }
-    ensures buffered { result.buffered ≡ [] }
+// Does the same with the machine, the taps and the file in one value.
+fn flatten<S: Source, K: Sink, T: Listener, L: Ledger>(
+    flattening: &mut Flattening<T, L>,
+    source: &mut S,
+    out: &mut K,
+) -> FlatEnding
+    requires { flattening.old.rig.now.played ≡ 0 }
+    ensures ends { (s : Machine) → Stands flattening.old.rig.now s → EndsFlat (from_state s 0)
+        (streams (S.left source.old) (K.held out.old) (map T.heard flattening.old.taps.now.items)
+        flattening.old.steps.now)
+        (streams (S.left source.new) (K.held out.new) (map T.heard flattening.new.taps.now.items)
+        flattening.new.steps.now) flattening.new.rig.now result }
+    ensures known { IsEnding result }
+    ensures read_cause { MayReadFault result → Rose (S.faults source.old) (S.faults source.new) }
+    ensures write_cause { MayWriteFault result → Rose (K.faults out.old) (K.faults out.new) }
+    ensures read_faults { S.faults source.old ≤ S.faults source.new }
+    ensures write_faults { K.faults out.old ≤ K.faults out.new }
+    ensures rig { flattening.new.rig.ghost_name ≡ flattening.old.rig.ghost_name }
+    ensures taps { flattening.new.taps.ghost_name ≡ flattening.old.taps.ghost_name }
+    ensures steps { flattening.new.steps.ghost_name ≡ flattening.old.steps.ghost_name }
 {
-    Draft {
-        file: FlatFile { version, size: 0 },
-        buffered: OutputBuffer::new(),
-    }
+    let mut reader = EventReader::new();
+    flat_ending(pass_all(flattening, &mut reader, source, out))
 }
 
 // Changes to the tall profile if captures of `version` are played in it.
-fn raise(rig: &mut Rig, version: u8)
+pub(crate) fn raise(rig: &mut Rig, version: u8)
     ensures { (t : Replay) → StandsFor rig.old t → StandsFor rig.new (raised t version) }
 {
     if version == TALL_VERSION {

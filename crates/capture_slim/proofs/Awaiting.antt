@@ -132,7 +132,7 @@ starts before left faults window first new version draft next file_is none is wi
       bytes = prepended-nil before.left;
       events = [];
       says = λ rest. rw is.version refl;
-      needed = none_needed [] refl;
+      needed = none_needed capture;
       reading = inl (is, refl, refl);
       near = let offset = is.offset in omega (arith, offset);
       least = 0;
@@ -261,10 +261,10 @@ module _ (version : ℕ) (before now : Streams) (window : Window) (draft : Draft
 
   all_says : (rest : List ℕ) → capture ((at.taken ++ takes.taken) ++ rest) ≡ then_events (at.events ++ e ∷ [])
       (capture_from new rest)
-  all_says rest = says_on at.old new at.events e at.taken takes.taken rest at.says takes.says
+  all_says rest = says_on capture at.old new at.events (e ∷ []) at.taken takes.taken at.says takes.says rest
 
   all_needed : AreNeeded capture (at.events ++ e ∷ []) (at.taken ++ takes.taken)
-  all_needed = needed_on at.old at.events e at.taken takes.taken at.says at.needed takes.needed
+  all_needed = needed_on capture at.old at.events e at.taken takes.taken at.says at.needed takes.needed
 
   -- the bytes read, with these events of them
   abbrev way_of : List Event → Way
@@ -449,8 +449,8 @@ module _ (version : ℕ) (before now : Streams) (window : Window) (draft : Draft
 
   stops_after : (held : Option (List ℕ)) → StopsAfter way stop before (streams now.left now.faults held)
   stops_after held = record {
-    says = stop_says at.old (said_of way) _ at.taken at.answer.taken now.left stop refl at.says at.answer.says;
-    needed = needed_end at.old at.events at.taken at.answer.taken at.says at.needed at.answer.needed;
+    says = stop_says capture at.old (said_of way) at.taken at.answer.taken now.left stop at.says at.answer.says;
+    needed = needed_end capture at.old at.events at.taken at.answer.taken at.says at.needed at.answer.needed;
     cause = cause;
   }
 

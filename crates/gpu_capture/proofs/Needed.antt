@@ -1,10 +1,10 @@
--- The meaning of the bytes read, and that all of them are needed.
+-- What the bytes taken say by any reading, and that none of them is one too many.
 use Rattle.std.proofs.Common.{◌≡◌, ◌≤◌, inl, inr, ◌++◌, ℕ, List, [], ◌∷◌, Option, Result, Ok, Err, OnOk, IfOk, IfErr}
 use Rattle.std.proofs.Common.{refl, ap, sym, ◌∙◌, append_assoc, append-nil}
-use Rattle.gpu_capture.specs.Capture.{Captured, capture, ended, then_events}
+use Rattle.gpu_capture.specs.Capture.{Captured, ended, then_events}
 use Rattle.gpu_capture.specs.Reader.{AreNeeded as ReaderNeeds, SaysStop as ReaderSays, StopsAt, Takes, capture_from}
 use Rattle.gpu_capture.specs.Reader.{reader_input}
-use Rattle.gpu_capture.specs.Reading.{AreNeeded, AreNeededToEnd, Said, SaysStop}
+use Rattle.gpu_capture.specs.Reading.{AreNeeded, AreNeededToEnd, Reading, Said, SaysStop}
 use Rattle.gpu_capture.specs.declared.event.Event.{Event}
 use Rattle.gpu_capture.specs.declared.event.Stop.{Stop}
 use Rattle.gpu_capture.specs.declared.event.Stop.TheVariants.{End, NotCapture, Truncated, BadRecord}
@@ -13,18 +13,25 @@ use Rattle.gpu_capture.specs.declared.progress.Progress.{Progress}
 use Rattle.gpu_capture.proofs.Steps.{split}
 use Rattle.gpu_capture.proofs.Versions.{version_from}
 
--- ---- needed bytes
+-- the bytes taken say these events, and then what the format says of the rest from a reader's place on
+abbrev pub ReadsOn : Reading → Progress → List ℕ → List Event → Type 0
+ReadsOn read p taken events = (rest : List ℕ) → read (taken ++ rest) ≡ then_events events (capture_from p rest)
 
-pub none_needed : (taken : List ℕ) → taken ≡ [] → AreNeeded capture [] taken
-none_needed taken none [] [] is some = absurd (some refl)
-none_needed taken none [] (x ∷ xs) is some = absurd cc
-none_needed taken none (x ∷ xs) more is some = absurd cc
+-- a capture that is cut short after these events
+abbrev pub cut_at : ℕ → ℕ → List Event → Captured
+cut_at version byte events = record { version = version; events = events; ending = Truncated byte; rest = [] }
+
+-- no byte is none too many
+pub none_needed : (read : Reading) → AreNeeded read [] []
+none_needed read [] [] is some = absurd (some refl)
+none_needed read [] (x ∷ xs) is some = absurd cc
+none_needed read (x ∷ xs) more is some = absurd cc
 
 -- the bytes so far and those of one more event are needed
-pub needed_on : (old : Progress) (events : List Event) (given : Event) (xs ys : List ℕ)
-    → ((more : List ℕ) → capture (xs ++ more) ≡ then_events events (capture_from old more))
-    → AreNeeded capture events xs → ReaderNeeds old ys → AreNeeded capture (events ++ given ∷ []) (xs ++ ys)
-needed_on old events given xs ys reached was next part more is some =
+pub needed_on : (read : Reading) (old : Progress) (events : List Event) (given : Event) (xs ys : List ℕ)
+    → ReadsOn read old xs events
+    → AreNeeded read events xs → ReaderNeeds old ys → AreNeeded read (events ++ given ∷ []) (xs ++ ys)
+needed_on read old events given xs ys reached was next part more is some =
     elim (split xs ys part more is) [
       | inl after ↦
           let short = next after.0 more after.2 some in (
@@ -35,14 +42,8 @@ needed_on old events given xs ys reached was next part more is some =
               byte = short.byte;
               fewer = events;
               are = refl;
-              is = ap capture after.1 ∙ reached after.0 ∙ ap (then_events events) short.is
-                  ∙ ap (λ (all : List Event). record {
-                    version = short.version;
-                    events = all;
-                    ending = Truncated
-                        short.byte;
-                    rest = [];
-                  }) (append-nil events);
+              is = ap read after.1 ∙ reached after.0 ∙ ap (then_events events) short.is
+                  ∙ ap (cut_at short.version short.byte) (append-nil events);
             },
           )
       | inr inside ↦
@@ -60,11 +61,27 @@ needed_on old events given xs ys reached was next part more is some =
           )
     ]
 
+-- the first bytes of a reader
+pub needed_first : (start : Progress) (given : Event) (ys : List ℕ) → ReaderNeeds start ys
+    → AreNeeded (capture_from start) (given ∷ []) ys
+needed_first start given ys next part more is some =
+    let short = next part more is some in (
+      given,
+      [],
+      record { version = short.version; byte = short.byte; fewer = []; are = refl; is = short.is },
+    )
+
+pub needed_end_first : (start : Progress) (ys : List ℕ) → ReaderNeeds start ys
+    → AreNeededToEnd (capture_from start) [] ys
+needed_end_first start ys next part more is some =
+    let short = next part more is some in
+    ([], record { version = short.version; byte = short.byte; fewer = []; are = refl; is = short.is })
+
 -- the bytes so far and those of a stop are needed
-pub needed_end : (old : Progress) (events : List Event) (xs ys : List ℕ)
-    → ((more : List ℕ) → capture (xs ++ more) ≡ then_events events (capture_from old more))
-    → AreNeeded capture events xs → ReaderNeeds old ys → AreNeededToEnd capture events (xs ++ ys)
-needed_end old events xs ys reached was next part more is some =
+pub needed_end : (read : Reading) (old : Progress) (events : List Event) (xs ys : List ℕ)
+    → ReadsOn read old xs events
+    → AreNeeded read events xs → ReaderNeeds old ys → AreNeededToEnd read events (xs ++ ys)
+needed_end read old events xs ys reached was next part more is some =
     elim (split xs ys part more is) [
       | inl after ↦
           let short = next after.0 more after.2 some in (
@@ -74,71 +91,109 @@ needed_end old events xs ys reached was next part more is some =
               byte = short.byte;
               fewer = events;
               are = sym (append-nil events);
-              is = ap capture after.1 ∙ reached after.0 ∙ ap (then_events events) short.is
-                  ∙ ap (λ (all : List Event). record {
-                    version = short.version;
-                    events = all;
-                    ending = Truncated
-                        short.byte;
-                    rest = [];
-                  }) (append-nil events);
+              is = ap read after.1 ∙ reached after.0 ∙ ap (then_events events) short.is
+                  ∙ ap (cut_at short.version short.byte) (append-nil events);
             },
           )
       | inr inside ↦
           let short = was part inside.0 inside.1 inside.2 in (short.0 ∷ short.1, short.2)
     ]
 
--- the bytes so far and those of one more event mean the events with it
-pub says_on : (old new : Progress) (events : List Event) (given : Event) (xs ys rest : List ℕ)
-    → ((more : List ℕ) → capture (xs ++ more) ≡ then_events events (capture_from old more))
-    → ((more : List ℕ) → capture_from old (ys ++ more) ≡ then_events (given ∷ []) (capture_from new more))
-    → capture ((xs ++ ys) ++ rest) ≡ then_events (events ++ given ∷ []) (capture_from new rest)
-says_on old new events given xs ys rest reached says =
-    ap capture (append_assoc xs ys rest) ∙ reached (ys ++ rest) ∙ ap (then_events events) (says rest)
-    ∙ joined events given (capture_from new rest)
-  where
-    joined : (events : List Event) (given : Event) (c : Captured)
-        → then_events events (then_events (given ∷ []) c) ≡ then_events (events ++ given ∷ []) c
-    joined events given c =
-        ap (λ (all : List Event). record { version = c.version; events = all; ending = c.ending; rest = c.rest })
-        (sym (append_assoc events (given ∷ []) c.events))
+pub then_both : (events others : List Event) (c : Captured) → then_events events (then_events others c)
+    ≡ then_events (events ++ others) c
+then_both events others c =
+    ap (λ (all : List Event). record { version = c.version; events = all; ending = c.ending; rest = c.rest })
+    (sym (append_assoc events others c.events))
 
--- the meaning of the bytes so far and those of a stop
-pub stop_whole : (old : Progress) (version : ℕ) (events : List Event) (xs ys rest : List ℕ) (stop : Stop)
-    → ((more : List ℕ) → capture (xs ++ more) ≡ then_events events (capture_from old more))
+-- the bytes so far, and those of more events
+pub says_on : (read : Reading) (old new : Progress) (events others : List Event) (xs ys : List ℕ)
+    → ReadsOn read old xs events
+    → ((rest : List ℕ) → capture_from old (ys ++ rest) ≡ then_events others (capture_from new rest))
+    → ReadsOn read new (xs ++ ys) (events ++ others)
+says_on read old new events others xs ys reached says = λ rest.
+    ap read (append_assoc xs ys rest) ∙ reached (ys ++ rest) ∙ ap (then_events events) (says rest)
+    ∙ then_both events others (capture_from new rest)
+
+-- what a reading of the bytes so far says, where the reader stopped
+stop_whole : (read : Reading) (old : Progress) (version : ℕ) (events : List Event) (xs ys rest : List ℕ) (stop : Stop)
+    → ReadsOn read old xs events
     → ((more : List ℕ) → capture_from old (ys ++ more) ≡ ended version stop more)
-    → capture ((xs ++ ys) ++ rest) ≡ record { version = version; events = events; ending = stop; rest = rest }
-stop_whole old version events xs ys rest stop reached says =
-    ap capture (append_assoc xs ys rest) ∙ reached (ys ++ rest) ∙ ap (then_events events) (says rest)
+    → read ((xs ++ ys) ++ rest) ≡ record { version = version; events = events; ending = stop; rest = rest }
+stop_whole read old version events xs ys rest stop reached says =
+    ap read (append_assoc xs ys rest) ∙ reached (ys ++ rest) ∙ ap (then_events events) (says rest)
     ∙ ap (λ (all : List Event). record { version = version; events = all; ending = stop; rest = rest })
     (append-nil events)
 
-pub stop_part : (old : Progress) (version : ℕ) (events : List Event) (xs ys : List ℕ) (byte : ℕ)
-    → ((more : List ℕ) → capture (xs ++ more) ≡ then_events events (capture_from old more))
-    → capture_from old ys ≡ ended version (Truncated byte) []
-    → capture (xs ++ ys) ≡ record { version = version; events = events; ending = Truncated byte; rest = [] }
-stop_part old version events xs ys byte reached says =
-    reached ys ∙ ap (then_events events) says
-    ∙ ap (λ (all : List Event). record { version = version; events = all; ending = Truncated byte; rest = [] })
-    (append-nil events)
+stop_part : (read : Reading) (old : Progress) (version : ℕ) (events : List Event) (xs ys : List ℕ) (byte : ℕ)
+    → ReadsOn read old xs events → capture_from old ys ≡ ended version (Truncated byte) []
+    → read (xs ++ ys) ≡ record { version = version; events = events; ending = Truncated byte; rest = [] }
+stop_part read old version events xs ys byte reached says =
+    reached ys ∙ ap (then_events events) says ∙ ap (cut_at version byte) (append-nil events)
 
 -- the same for each kind of stop
-pub stop_says : (old : Progress) (said : Said) (taken xs ys : List ℕ) (left : Option (List ℕ)) (stop : Stop)
-    → taken ≡ xs ++ ys
-    → ((more : List ℕ) → capture (xs ++ more) ≡ then_events said.events (capture_from old more))
-    → ReaderSays stop old said.version ys left → SaysStop capture taken said stop left
-stop_says old said taken xs ys left End are reached says = λ rest. rw are
-    (stop_whole old said.version said.events xs ys rest End reached says)
-stop_says old said taken xs ys left (NotCapture byte) are reached says = λ rest. rw are
-    (stop_whole old said.version said.events xs ys rest (NotCapture byte) reached says)
-stop_says old said taken xs ys left (BadRecord byte word) are reached says = λ rest. rw are
-    (stop_whole old said.version said.events xs ys rest (BadRecord byte word) reached says)
-stop_says old said taken xs ys left (PastLimit byte) are reached says = λ rest. rw are
-    (stop_whole old said.version said.events xs ys rest (PastLimit byte) reached says)
-stop_says old said taken xs ys left (Truncated byte) are reached says =
-    (rw are (stop_part old said.version said.events xs ys byte reached says.0), says.1)
-stop_says old said taken xs ys left (ReadFault byte) are reached says = rw are
-    (stop_part old said.version said.events xs ys byte reached says)
+pub stop_says : (read : Reading) (old : Progress) (said : Said) (xs ys : List ℕ) (left : Option (List ℕ)) (stop : Stop)
+    → ReadsOn read old xs said.events
+    → ReaderSays stop old said.version ys left → SaysStop read (xs ++ ys) said stop left
+stop_says read old said xs ys left End reached says = λ rest.
+    stop_whole read old said.version said.events xs ys rest End reached says
+stop_says read old said xs ys left (NotCapture byte) reached says = λ rest.
+    stop_whole read old said.version said.events xs ys rest (NotCapture byte) reached says
+stop_says read old said xs ys left (BadRecord byte word) reached says = λ rest.
+    stop_whole read old said.version said.events xs ys rest (BadRecord byte word) reached says
+stop_says read old said xs ys left (PastLimit byte) reached says = λ rest.
+    stop_whole read old said.version said.events xs ys rest (PastLimit byte) reached says
+stop_says read old said xs ys left (Truncated byte) reached says =
+    (stop_part read old said.version said.events xs ys byte reached says.0, says.1)
+stop_says read old said xs ys left (ReadFault byte) reached says =
+    stop_part read old said.version said.events xs ys byte reached says
+
+-- the first answer of a reader
+pub stop_says_first : (start : Progress) (version : ℕ) (ys : List ℕ) (left : Option (List ℕ)) (stop : Stop)
+    → ReaderSays stop start version ys left
+    → SaysStop (capture_from start) ys (record { version = version; events = [] }) stop left
+stop_says_first start version ys left End says = says
+stop_says_first start version ys left (NotCapture byte) says = says
+stop_says_first start version ys left (BadRecord byte word) says = says
+stop_says_first start version ys left (PastLimit byte) says = says
+stop_says_first start version ys left (Truncated byte) says = says
+stop_says_first start version ys left (ReadFault byte) says = says
+
+-- ---- none too many to see how it goes on
+
+-- where none is for the last of the events
+pub needed_to_end : (read : Reading) (events : List Event) (taken : List ℕ) → AreNeeded read events taken
+    → AreNeededToEnd read events taken
+needed_to_end read events taken needed part more is some =
+    let short = needed part more is some in (short.0 ∷ short.1, short.2)
+
+-- a list that ends with one more
+but_last : (events fewer missing : List Event) (given e : Event) → events ++ given ∷ [] ≡ fewer ++ e ∷ missing
+    → (rest : List Event) × (events ≡ fewer ++ rest)
+but_last events [] missing given e is = (events, refl)
+but_last [] (f ∷ []) missing given e is = absurd cc
+but_last [] (f ∷ g ∷ fewer) missing given e is = absurd cc
+but_last (x ∷ events) (f ∷ fewer) missing given e is =
+    let same : x ≡ f = cc in
+    let rest : events ++ given ∷ [] ≡ fewer ++ e ∷ missing = cc in
+    let later = but_last events fewer missing given e rest in
+    let is_rest = later.1 in
+    (later.0, cc)
+
+-- where none is for one event more
+pub needed_before : (read : Reading) (events : List Event) (given : Event) (taken : List ℕ)
+    → AreNeeded read (events ++ given ∷ []) taken → AreNeededToEnd read events taken
+needed_before read events given taken needed part more is some =
+    let short = needed part more is some in
+    let rest = but_last events short.2.fewer short.1 given short.0 short.2.are in (
+      rest.0,
+      record {
+        version = short.2.version;
+        byte = short.2.byte;
+        fewer = short.2.fewer;
+        are = rest.1;
+        is = short.2.is;
+      },
+    )
 
 -- ---- versions
 

@@ -112,7 +112,7 @@ IsExpected (expected.Madr by) = IsBy by
 IsExpected (expected.Bcr by madr) = IsBy by
 IsExpected (expected.Chcr by madr bcr) = IsBy by
 
--- a stop that a word decides
+-- the meaning of a word that decides a stop
 abbrev pub IsWordStop : Stop → Type 0
 IsWordStop End = Unit {0}
 IsWordStop (BadRecord byte word) = Unit {0}

@@ -1,0 +1,25 @@
+-- Output that is buffered while events are read (our own rule).
+use Rattle.std.specs.Prelude.{◌≡◌, ◌<◌, ◌≤◌, ◌⊎◌, ◌+◌, ◌++◌, ℕ, List, [], ◌∷◌, length}
+use Rattle.gpu_capture.specs.declared.event.Event.{Event}
+use Rattle.gathered_out.specs.Puts.{Holding, IsWritten}
+
+-- The most bytes that are read while output is buffered: 4,096, and the 16 of one event.
+abbrev pub most_after : ℕ
+most_after = 4112
+
+-- `place` is the byte offset of the reader, `since` that of the last flush. Either the output stays buffered, and fewer
+-- than 4,096 bytes were read since. Or all is written, and `at` is the new offset.
+abbrev pub Pauses : (place since : ℕ) → (before now : Holding) → (at : ℕ) → Type 0
+Pauses place since before now at =
+    ((at ≡ since) × (place < since + 4096) × (now.buffered ≡ before.buffered) × (now.held ≡ before.held))
+    ⊎ ((at ≡ place) × (now.buffered ≡ []) × IsWritten before.held now.held before.buffered)
+
+-- the output of every event after these may be buffered
+abbrev pub WaitsAfter : (most : List Event → Event → ℕ) → List Event → Type 0
+WaitsAfter most events =
+    (before : List Event) (event : Event) → length events ≤ length before → most_after ≤ most before event
+
+-- this is known of each of `events`, which follow `before`
+abbrev pub KnowsEach : (List Event → Event → Type 0) → (before events : List Event) → Type 0
+KnowsEach knows before events = (earlier : List Event) (event : Event) (later : List Event)
+    → events ≡ earlier ++ event ∷ later → knows (before ++ earlier) event

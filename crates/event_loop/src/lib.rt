@@ -1,0 +1,12 @@
+//! One loop over the events of a source. A trait says what happens at each event and what output it has.
+#![tactic(auto)]
+
+mod ended;
+mod pass;
+mod passage;
+mod pause;
+mod stop;
+
+pub use ended::{Ended, Halt};
+pub use pass::pass_all;
+pub use passage::Passage;
