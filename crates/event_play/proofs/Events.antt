@@ -33,7 +33,7 @@ unfolding event_step
 step_fault rig s number event fault stands asked = rw (stands.ram, stands.running, ← asked) refl
 
 -- An operation has the notes of the words that it feeds.
-notes_are : (s : Machine) (number : ℕ) (asked : Operation)
+pub notes_are : (s : Machine) (number : ℕ) (asked : Operation)
     → (done s number asked).notes ≡ fed_notes s.gpu number (asked_words s.ram (Ok asked))
 notes_are s number operation.Nothing = refl
 notes_are s number (operation.Put address word) = refl

@@ -21,6 +21,7 @@ pub mod Following
 pub mod InARow
 pub mod Together
 pub mod OwnWords
+pub mod Outlets
 pub mod AlikeStates
 pub mod Splits
 pub mod Shots

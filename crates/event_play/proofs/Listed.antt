@@ -20,6 +20,7 @@ use Rattle.gpu_core.specs.Feeds.{but_pixels, feed_notes}
 use Rattle.gpu_core.specs.Machine.{State, after_gp0, gp0_note, new_item, noted}
 use Rattle.gpu_capture.specs.Reading.{AreNeeded}
 use Rattle.packet_text.specs.Line.{listed, note_line}
+use Rattle.event_play.specs.Feeding.{fed_lines}
 use Rattle.event_play.specs.Listing.{ArePut, PutsPieces, listed_pieces}
 use Rattle.event_play.specs.Out.{lines_of}
 use Rattle.event_play.specs.PlayedWords.{after_word, after_words, word_notes}
@@ -27,6 +28,7 @@ use Rattle.event_play.specs.Playing.{Follows, reads}
 use Rattle.event_play.specs.Replay.{Replay, Script, next_number}
 use Rattle.event_play.specs.declared.ending.Mode.TheVariants.{List as Listing}
 use Rattle.event_play.proofs.AtOnce.{same_numbers, word_is}
+use Rattle.event_play.proofs.Feeds.{word_lines}
 use Rattle.event_play.proofs.Following.{follows_on, needed_on}
 use Rattle.event_play.proofs.Lacking.{WasDue, due_on}
 
@@ -183,6 +185,12 @@ word_pieces : (s : State) (event word : ℕ) → ArePieces event (flat_map liste
     (listed_pieces (option_to_list (gp0_note s event word)))
 unfolding gp0_note
 word_pieces s event word = item_pieces s.parts.regs event (new_item s.words word)
+
+-- the line of its note is one of its event
+pub line_pieces : (s : State) (event word : ℕ) (note : Option Note) → gp0_note s event word ≡ note
+    → ArePieces event (fed_lines Listing s event (word ∷ [])) (listed_pieces (option_to_list note))
+line_pieces s event word note noted =
+    rw (← word_lines s event word note noted, ← noted) (word_pieces s event word)
 
 -- Pieces that were added to the buffer count as put.
 put_buffered : (number : ℕ) (bytes : List ℕ) (held : Option (List ℕ)) (buffered parts : List Piece)

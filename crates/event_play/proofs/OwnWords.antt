@@ -1,13 +1,19 @@
 -- Words that are fed to a rig without a capture.
-use Rattle.std.proofs.Common.{◌≡◌, ℕ, List, [], ◌∷◌, refl, ◌∙◌, arith}
+use Rattle.std.proofs.Common.{◌≡◌, ℕ, List, [], ◌∷◌, None, option_to_list, refl, ap, sym, ◌∙◌, append-nil, arith}
+use Rattle.gpu_capture.specs.declared.event.Event.TheVariants.{Gp0}
 use Rattle.gpu_core.specs.Kept.{Kept}
+use Rattle.gpu_core.specs.Machine.{gp0_note}
 use Rattle.gpu_taps.specs.Tally.{Reading}
 use Rattle.event_play.specs.OwnWords.{Tells}
 use Rattle.event_play.specs.PlayedWords.{IsTold, after_word, after_words}
-use Rattle.event_play.specs.Replay.{Replay, from_state}
+use Rattle.event_play.specs.Fed.{fed_notes}
+use Rattle.event_play.specs.Replay.{Replay, from_state, next_number}
 use Rattle.event_play.specs.RigState.{RigState, Stands}
-use Rattle.event_play.specs.Step.{Machine}
+use Rattle.event_play.specs.PlayState.{play_state}
+use Rattle.event_play.specs.Step.{Machine, event_cost, event_step}
+use Rattle.event_play.specs.Stepping.{HasStepped, numbered}
 use Rattle.event_play.specs.Streams.{Outlets, without_sink}
+use Rattle.event_play.specs.Told.{told_notes}
 
 same_ram : (t : Replay) (words : List ℕ) → (after_words t words).state.ram ≡ t.state.ram
 same_ram t [] = refl
@@ -43,4 +49,20 @@ words_tell rig gpu played words heard heard_now steps steps_now tells s stands =
       };
       heard = told.heard;
       cost = told.cost;
+    }
+
+-- a word that was taken as the next event is the step of its event
+pub word_steps : (s : Machine) (played word : ℕ) (before now : Outlets) (rig : RigState)
+    → Tells (after_word (from_state s played) word) before now rig
+    → HasStepped s (numbered (next_number played) (Gp0 word)) None before (play_state now rig)
+unfolding event_step event_cost
+word_steps s played word before now rig tells =
+    let note = option_to_list (gp0_note s.gpu (next_number played) word) in
+    record {
+      machine = (after_word (from_state s played) word).state;
+      notes = fed_notes s.gpu (next_number played) (word ∷ []);
+      is = refl;
+      stands = tells.stands.state;
+      heard = tells.heard ∙ ap (λ notes. told_notes notes before.heard) (sym (append-nil note));
+      cost = let c = tells.cost in omega (arith, c);
     }

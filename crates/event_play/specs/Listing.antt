@@ -1,7 +1,8 @@
 -- Lines of notes of words that are played as one block, one event per word.
-use Rattle.std.specs.Prelude.{ℕ, List, [], ◌++◌, map, Option, Result, OnOk, IfErr}
+use Rattle.std.specs.Prelude.{◌≤◌, ℕ, List, [], ◌++◌, map, Option, Result, OnOk, OnErr, IfErr}
+use Rattle.dev_io.specs.Device.{Rose}
 use Rattle.gathered_out.specs.Pieces.{AreOut, Piece, piece}
-use Rattle.gathered_out.specs.Puts.{BreaksWriting, Holding}
+use Rattle.gathered_out.specs.Puts.{BreaksWriting, Holding, SinkState, holding}
 use Rattle.gp0_packets.specs.declared.note.Note.{Note}
 use Rattle.gpu_core.specs.Feeds.{but_pixels}
 use Rattle.packet_text.specs.Line.{note_line}
@@ -27,3 +28,14 @@ pub record PutsPieces {Value : Type 0} (pieces : List Piece) (before now : Holdi
     : Type 0 where
   pub ok : OnOk result (ArePut pieces before now)
   pub failed : IfErr result (BreaksWriting before.held now.held (before.buffered ++ pieces))
+
+-- what a sink holds
+abbrev pub held_by : SinkState → Holding
+held_by at = holding at.held at.buffered
+
+-- the same with the faults of the sink
+pub record PutsLines {Value : Type 0} (pieces : List Piece) (before now : SinkState) (result : Result Value ℕ)
+    : Type 0 where
+  pub puts : PutsPieces pieces (held_by before) (held_by now) result
+  pub cause : OnErr result (Rose before.faults now.faults)
+  pub faults : before.faults ≤ now.faults

@@ -1,19 +1,16 @@
 // Words written to GP0 without a capture, one event per word.
-ghost use Rattle.std.specs.Prelude.{◌≡◌, map, None};
+ghost use Rattle.std.specs.Prelude.{◌≡◌, map};
 ghost use Rattle.gpu_core.specs.Machine.{gp0_note};
 ghost use Rattle.event_play.specs.OwnWords.{Tells};
 ghost use Rattle.event_play.specs.PlayedWords.{after_word, after_words};
 ghost use Rattle.event_play.specs.Replay.{from_state, next_number};
 ghost use Rattle.event_play.specs.RigState.{Stands};
 ghost use Rattle.event_play.specs.Step.{Machine};
-ghost use Rattle.event_play.specs.PlayState.{play_state};
-ghost use Rattle.event_play.specs.Stepping.{HasStepped, numbered};
 ghost use Rattle.event_play.specs.Streams.{without_sink};
 
 use crate::feed::feed_events;
 use crate::rig::Rig;
 use gp0_packets::Note;
-use gpu_capture::Event;
 use gpu_taps::Listener;
 use std::sync::ledger::Ledger;
 use vram_store::Steps;
@@ -32,29 +29,11 @@ impl Rig {
             (without_sink (map T.heard taps.new.items) steps.new) self.new }
         ensures note { (s : Machine) → Stands self.old s →
             gp0_note s.gpu (next_number self.old.played) word ≡ result }
-    {
-        let number = self.next_number();
-        self.played = number;
-        self.gpu.gp0(number, word, taps, steps)
-    }
-
-    /// Plays a Gp0 event. It needs no validation, since it has no fault. It changes only the GPU and the number of
-    /// events.
-    pub(crate) fn event_word<T: Listener, L: Ledger>(
-        &mut self,
-        word: u32,
-        taps: &mut Vec<T>,
-        steps: &mut Steps<L>,
-    )
-        ensures stepped { (s : Machine) → Stands self.old s →
-            HasStepped s (numbered (next_number self.old.played) (Event.Gp0 word)) None
-            (without_sink (map T.heard taps.old.items) steps.old)
-            (play_state (without_sink (map T.heard taps.new.items) steps.new) self.new) }
         ensures played { self.new.played ≡ next_number self.old.played }
     {
         let number = self.next_number();
         self.played = number;
-        let _ = self.gpu.gp0(number, word, taps, steps);
+        self.gpu.gp0(number, word, taps, steps)
     }
 
     /// Feeds `words` to GP0, one event per word. Words that belong together are executed as one block.

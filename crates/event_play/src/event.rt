@@ -4,7 +4,7 @@ ghost use Rattle.event_play.specs.Ends.{PlaysOrEnds};
 ghost use Rattle.event_play.specs.PlayState.{play_state};
 ghost use Rattle.event_play.specs.Streams.{buffering, outlets};
 
-use crate::ending::{Ending, EventInMode, InMode};
+use crate::ending::{Ending, EventInMode, InEvent, InMode};
 use crate::feed::feed_word;
 use crate::film::Played;
 use crate::finals::write_after;
@@ -69,7 +69,11 @@ impl Rig {
             number,
             mode: word.mode,
         };
-        match feed_word(&mut self.gpu, event_in_mode, word.value, lines, taps, steps) {
+        let given = InEvent {
+            event_in_mode,
+            value: word.value,
+        };
+        match feed_word(&mut self.gpu, given, lines, taps, steps) {
             Ok(()) => {
                 self.played = number;
                 Ok(())
@@ -110,7 +114,11 @@ impl Rig {
             number,
             mode: event.mode,
         };
-        match self.perform(event_in_mode, operation, lines, taps, steps) {
+        let given = InEvent {
+            event_in_mode,
+            value: operation,
+        };
+        match self.perform(given, lines, taps, steps) {
             Err(event) => Err(Ending::WriteFailed { event }),
             Ok(shown) => {
                 self.played = number;

@@ -1,5 +1,4 @@
-// Words fed to GP0, one after another. The functions have six parameters, since a word may change everything that
-// playing changes: the GPU, the lines, the taps and the store steps.
+// Words that go to GP0, one after another.
 ghost use Rattle.std.specs.Prelude.{◌≡◌, ◌≤◌, ◌<◌, ◌+◌, [], ◌∷◌, length, take, map};
 ghost use Rattle.event_play.specs.Feeding.{FeedsWords, drawing, in_event};
 ghost use Rattle.event_play.specs.PlayedWords.{IsTold, after_words, number_after};
@@ -7,7 +6,7 @@ ghost use Rattle.event_play.specs.Replay.{Replay};
 ghost use Rattle.event_play.specs.Streams.{Outlets, with_sink, without_sink};
 ghost use Rattle.event_play.specs.Changes.{seen_cell};
 
-use crate::ending::{EventInMode, Mode};
+use crate::ending::{InEvent, Mode};
 use crate::outlet::{Outlet, put_changed, put_listed};
 use crate::words::WordCursor;
 use gpu_core::Gpu;
@@ -20,20 +19,24 @@ use vram_store::Steps;
 /// cannot be written, feeds no further word, and returns the number of the first event whose lines are incomplete.
 pub(crate) fn feed<O: Outlet, T: Listener, L: Ledger>(
     gpu: &mut Gpu,
-    event_in_mode: EventInMode,
-    words: WordCursor,
+    words: InEvent<WordCursor>,
     lines: &mut O,
     taps: &mut Vec<T>,
     steps: &mut Steps<L>,
 ) -> Result<(), u64>
-    ensures feeds { FeedsWords event_in_mode words.entry
+    ensures feeds { FeedsWords words.entry.event_in_mode words.entry.value
         (drawing (with_sink (O.state lines.old) (map T.heard taps.old.items) steps.old) gpu.old)
         (drawing (with_sink (O.state lines.new) (map T.heard taps.new.items) steps.new) gpu.new) result }
     ensures same { O.same lines.old lines.new }
 {
-    let mut left = words;
+    let event_in_mode = words.event_in_mode;
+    let mut left = words.value;
     'words: while let Some(word) = left.next() {
-        match feed_word(gpu, event_in_mode, word, lines, taps, steps) {
+        let given = InEvent {
+            event_in_mode,
+            value: word,
+        };
+        match feed_word(gpu, given, lines, taps, steps) {
             Ok(()) => {}
             Err(lacking) => return Err(lacking),
         }
@@ -45,26 +48,32 @@ pub(crate) fn feed<O: Outlet, T: Listener, L: Ledger>(
 /// failure, returns the number of the first event whose lines are incomplete; the word has then been fed.
 pub(crate) fn feed_word<O: Outlet, T: Listener, L: Ledger>(
     gpu: &mut Gpu,
-    event_in_mode: EventInMode,
-    word: u32,
+    word: InEvent<u32>,
     lines: &mut O,
     taps: &mut Vec<T>,
     steps: &mut Steps<L>,
 ) -> Result<(), u64>
-    ensures feeds { FeedsWords event_in_mode (word ∷ [])
+    ensures feeds { FeedsWords word.event_in_mode (word.value ∷ [])
         (drawing (with_sink (O.state lines.old) (map T.heard taps.old.items) steps.old) gpu.old)
         (drawing (with_sink (O.state lines.new) (map T.heard taps.new.items) steps.new) gpu.new) result }
     ensures same { O.same lines.old lines.new }
 {
-    let number = event_in_mode.number;
-    match event_in_mode.mode {
+    let number = word.event_in_mode.number;
+    match word.event_in_mode.mode {
         Mode::List => {
-            let note = gpu.gp0(number, word, taps, steps);
-            put_listed(number, &note, lines)
+            let note = gpu.gp0(number, word.value, taps, steps);
+            put_listed(&note, lines)
         }
-        Mode::Pixel { cell } => feed_watched(gpu, Watch { number, word, cell }, lines, taps, steps),
+        Mode::Pixel { cell } => {
+            let watch = Watch {
+                number,
+                word: word.value,
+                cell,
+            };
+            feed_watched(gpu, watch, lines, taps, steps)
+        }
         _ => {
-            let _ = gpu.gp0(number, word, taps, steps);
+            let _ = gpu.gp0(number, word.value, taps, steps);
             Ok(())
         }
     }

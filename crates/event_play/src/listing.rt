@@ -12,7 +12,7 @@ ghost use Rattle.event_play.specs.Streams.{Outlets, without_sink};
 
 use crate::ending::Mode;
 use crate::feed::feed_events;
-use crate::outlet::{Lines, put_noted};
+use crate::outlet::{Lines, put_listed};
 use crate::rig::Rig;
 use dev_io::Sink;
 use gathered_out::OutputBuffer;
@@ -102,7 +102,7 @@ fn list_events<K: Sink, T: Listener, L: Ledger>(
         let fed = feed_noted(gpu, *played, &words[at..], taps, steps);
         *played = played.saturating_add(fed.count as u64);
         at += fed.count;
-        if let Err(lacking) = put_noted(&fed.note, lines) {
+        if let Err(lacking) = put_listed(&fed.note, lines) {
             *played = feed_events(gpu, *played, &words[at..], taps, steps);
             return Err(lacking);
         }

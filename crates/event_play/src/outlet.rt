@@ -1,10 +1,9 @@
 // The receivers of lines of items.
-ghost use Rattle.std.specs.Prelude.{◌≡◌, ◌≤◌, flat_map, length, option_to_list, IfSome, OnErr};
-ghost use Rattle.dev_io.specs.Device.{Rose};
+ghost use Rattle.std.specs.Prelude.{◌≡◌, ◌≤◌, [], ◌∷◌, length, option_to_list, IfSome};
 ghost use Rattle.gathered_out.specs.Pieces.{piece};
-ghost use Rattle.gathered_out.specs.Puts.{Puts, SinkState, holding};
-ghost use Rattle.packet_text.specs.Line.{change_line, listed, note_line};
-ghost use Rattle.event_play.specs.Listing.{PutsPieces, listed_pieces};
+ghost use Rattle.gathered_out.specs.Puts.{Puts, SinkState};
+ghost use Rattle.packet_text.specs.Line.{change_line};
+ghost use Rattle.event_play.specs.Listing.{PutsLines, listed_pieces};
 ghost use Rattle.event_play.specs.Changes.{cell_change_line};
 
 use dev_io::Sink;
@@ -24,7 +23,7 @@ pub(crate) trait Outlet {
     /// event whose lines are incomplete.
     fn put(&mut self, number: u64, line: &[u8]) -> Result<(), u64>
         requires { length line.now ≤ 4096 }
-        ensures puts { Puts (piece number line.now) (state self.old) (state self.new) result }
+        ensures puts { PutsLines (piece number line.now ∷ []) (state self.old) (state self.new) result }
         ensures same { same self.old self.new };
 
     ghost same_at_first: { (x : Self) → same x x };
@@ -94,53 +93,17 @@ pub(crate) fn put_changed<O: Outlet>(
     }
 }
 
-/// Adds the line of a note to event `number`, unless there is none or it is for pixels of a load. The class of the note
-/// must be at most 9.
-pub(crate) fn put_listed<O: Outlet>(
-    number: u64,
-    note: &Option<Note>,
-    lines: &mut O,
-) -> Result<(), u64>
-    requires { IfSome note.now (λ note. note.class ≤ 9) }
-    ensures puts { Puts (piece number (flat_map listed (option_to_list note.now)))
-        (O.state lines.old) (O.state lines.new) result }
-    ensures same { O.same lines.old lines.new }
-{
-    match note {
-        Some(note) if note.class != 9 => put_note(number, note, lines),
-        _ => Ok(()),
-    }
-}
-
 /// Adds the line of a note to the note's own event, unless there is none or it is for pixels of a load. The class of
 /// the note must be at most 9.
-pub(crate) fn put_noted<K: Sink>(note: &Option<Note>, lines: &mut Lines<K>) -> Result<(), u64>
+pub(crate) fn put_listed<O: Outlet>(note: &Option<Note>, lines: &mut O) -> Result<(), u64>
     requires { IfSome note.now (λ note. note.class ≤ 9) }
-    ensures puts { PutsPieces (listed_pieces (option_to_list note.now))
-        (holding (K.held lines.old.out.now) lines.old.buffered.now)
-        (holding (K.held lines.new.out.now) lines.new.buffered.now) result }
-    ensures cause { OnErr result (Rose (K.faults lines.old.out.now) (K.faults lines.new.out.now)) }
-    ensures faults { K.faults lines.old.out.now ≤ K.faults lines.new.out.now }
-    ensures buffered { lines.new.buffered.ghost_name ≡ lines.old.buffered.ghost_name }
-    ensures out { lines.new.out.ghost_name ≡ lines.old.out.ghost_name }
-{
-    match note {
-        Some(told) if told.class != 9 => {
-            lines
-                .buffered
-                .put(told.event, note_text(told).as_slice(), lines.out)
-        }
-        _ => Ok(()),
-    }
-}
-
-// Adds the line of a note. Its class must be at most 9.
-fn put_note<O: Outlet>(number: u64, note: &Note, lines: &mut O) -> Result<(), u64>
-    requires { note.now.class ≤ 9 }
-    ensures puts { Puts (piece number (note_line note.now)) (O.state lines.old) (O.state lines.new) result }
+    ensures puts { PutsLines (listed_pieces (option_to_list note.now)) (O.state lines.old) (O.state lines.new) result }
     ensures same { O.same lines.old lines.new }
 {
-    lines.put(number, note_text(note).as_slice())
+    match note {
+        Some(told) if told.class != 9 => lines.put(told.event, note_text(told).as_slice()),
+        _ => Ok(()),
+    }
 }
 
 // Adds the line of an item that changed the cell from `before` to `after`.

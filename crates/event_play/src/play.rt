@@ -25,7 +25,7 @@ use std::sync::ledger::Ledger;
 use vram_store::Steps;
 
 /// Captures of this version are played in the tall profile (1024 rows of video memory).
-const TALL_VERSION: u8 = 3;
+pub const TALL_VERSION: u8 = 3;
 
 impl Rig {
     /// Plays a capture to its End, from the machine as it is, and writes the output of `mode`. The taps receive every
@@ -127,8 +127,8 @@ impl Rig {
         }
     }
 
-    // Changes to the tall profile if captures of `version` are played in it.
-    fn raise(&mut self, version: u8)
+    /// Takes on the profile in which captures of this version are played.
+    pub fn raise(&mut self, version: u8)
         ensures { (t : Replay) → StandsFor self.old t → StandsFor self.new (raised t version) }
     {
         if version == TALL_VERSION {

@@ -10,12 +10,11 @@ ghost use Rattle.event_play.specs.Stepping.{HasStepped, numbered};
 ghost use Rattle.event_play.specs.Streams.{with_sink, without_sink};
 ghost use Rattle.event_play.specs.Operation.{operation_of, IsOperation};
 
-use crate::ending::{EventInMode, Mode};
+use crate::ending::{EventInMode, InEvent, Mode};
 use crate::fault::EventFault;
 use crate::feed::feed;
 use crate::operation::Operation;
 use crate::outlet::{NoLines, Outlet};
-use crate::take::take_block;
 use crate::validate::validate;
 use crate::words::WordCursor;
 use gpu_capture::Event;
@@ -95,7 +94,7 @@ impl Rig {
         ensures free { OnErr result (steps.new ≡ steps.old) }
     {
         if let Event::Gp0 { word } = *event {
-            self.event_word(word, taps, steps);
+            let _ = self.take_word(word, taps, steps);
             return Ok(None);
         }
         match validate(event, &mut self.walk, &self.ram, self.running) {
@@ -104,7 +103,11 @@ impl Rig {
                     number: self.next_number(),
                     mode: Mode::Vram,
                 };
-                match self.perform(event_in_mode, operation, &mut NoLines {}, taps, steps) {
+                let given = InEvent {
+                    event_in_mode,
+                    value: operation,
+                };
+                match self.perform(given, &mut NoLines {}, taps, steps) {
                     Ok(shown) => {
                         self.played = event_in_mode.number;
                         Ok(shown)
@@ -130,30 +133,27 @@ impl Rig {
     /// event whose lines are incomplete. `operation` must be in its bounds, as the operation of an event is.
     pub(crate) fn perform<O: Outlet, T: Listener, L: Ledger>(
         &mut self,
-        event_in_mode: EventInMode,
-        operation: Operation,
+        operation: InEvent<Operation>,
         lines: &mut O,
         taps: &mut Vec<T>,
         steps: &mut Steps<L>,
     ) -> Result<Option<u32>, u64>
-        requires { IsOperation operation }
-        ensures performs { Performs event_in_mode operation
+        requires { IsOperation operation.value }
+        ensures performs { Performs operation.event_in_mode operation.value
             (play_state (with_sink (O.state lines.old) (map T.heard taps.old.items) steps.old) self.old)
             (play_state (with_sink (O.state lines.new) (map T.heard taps.new.items) steps.new) self.new) result }
-        ensures puts { PutsOperation event_in_mode operation
+        ensures puts { PutsOperation operation.event_in_mode operation.value
             (play_state (with_sink (O.state lines.old) (map T.heard taps.old.items) steps.old) self.old)
             (play_state (with_sink (O.state lines.new) (map T.heard taps.new.items) steps.new) self.new) result }
         ensures same { O.same lines.old lines.new }
     {
-        match operation {
-            Operation::Nothing => Ok(None),
-            Operation::Put { address, word } => {
-                self.ram.put(address, word);
-                Ok(None)
-            }
+        match operation.value {
             Operation::Feed { words, next } => {
-                let words = WordCursor::new(&self.ram, words);
-                match feed(&mut self.gpu, event_in_mode, words, lines, taps, steps) {
+                let given = InEvent {
+                    event_in_mode: operation.event_in_mode,
+                    value: WordCursor::new(&self.ram, words),
+                };
+                match feed(&mut self.gpu, given, lines, taps, steps) {
                     Ok(()) => {
                         self.running = next;
                         Ok(None)
@@ -161,29 +161,7 @@ impl Rig {
                     Err(lacking) => Err(lacking),
                 }
             }
-            Operation::Take { block, next } => {
-                take_block(&mut self.gpu, &mut self.ram, block, steps);
-                self.running = next;
-                Ok(None)
-            }
-            Operation::Control { word } => {
-                self.gpu.gp1(word);
-                Ok(None)
-            }
-            Operation::Read => Ok(Some(self.gpu.read(steps))),
-            Operation::Skip => {
-                let _ = self.gpu.read(steps);
-                Ok(None)
-            }
-            Operation::Stat => Ok(Some(self.gpu.status())),
-            Operation::Clear { madr, n } => {
-                self.ram.clear_table(madr, n);
-                Ok(None)
-            }
-            Operation::Begin { next } => {
-                self.running = next;
-                Ok(None)
-            }
+            _ => Ok(self.perform_quiet(operation.value, steps)),
         }
     }
 

@@ -1,8 +1,9 @@
 use Rattle.std.proofs.Common.{inl, refl, rules}
 use Rattle.std.proofs.lemmas.Result.{on_ok_weaker, on_err_weaker}
 use Rattle.event_play.specs.Lines.{IsBuffered}
-use Rattle.event_play.proofs.Feeds.{quiet_feeds, word_feeds, word_lines, word_stops}
-use Rattle.event_play.proofs.Putting.{puts_same}
+use Rattle.event_play.proofs.Feeds.{quiet_feeds, word_feeds, word_stops}
+use Rattle.event_play.proofs.Listed.{line_pieces}
+use Rattle.event_play.proofs.Outlets.{puts_as}
 use Rattle.event_play.proofs.feed.feed_word.Goals as goal
 
 pub returns-in-List-clause-feeds : goal.returns-in-List-clause-feeds
@@ -11,17 +12,17 @@ returns-in-List-clause-feeds g c =
     rw c.in-List.is (record {
       ok = λ s e.
           on_ok_weaker c.put_listed.result
-          (λ put. word_feeds _ s c.args.event_in_mode.number c.args.word c.gp0-note.result _ _ _ (fed.feed s e)
+          (λ put. word_feeds _ s c.args.word.within.number c.args.word.value c.gp0-note.result _ _ _ (fed.feed s e)
           (fed.note s e) fed.taps (fed.cost s e))
-          c.put_listed.ensures.puts.ok;
+          c.put_listed.ensures.puts.puts.ok;
       failed = λ s e.
           on_err_weaker c.put_listed.result
-          (λ part. word_stops _ s c.args.event_in_mode.number c.args.word c.gp0-note.result _ _ _ (fed.feed s e)
+          (λ part. word_stops _ s c.args.word.within.number c.args.word.value c.gp0-note.result _ _ _ (fed.feed s e)
           (fed.note s e) fed.taps (fed.cost s e))
           c.put_listed.ensures.puts.cause;
       puts = λ s e.
-          puts_same _ _ _ _ _ c.put_listed.result
-          (word_lines s c.args.event_in_mode.number c.args.word c.gp0-note.result (fed.note s e))
+          puts_as c.args.word.within.number _ _ _ _ c.put_listed.result
+          (line_pieces s c.args.word.within.number c.args.word.value c.gp0-note.result (fed.note s e))
           c.put_listed.ensures.puts;
       kept = inl tt;
       buffers = on_err_weaker c.put_listed.result (λ part. tt) c.put_listed.ensures.puts.cause;
@@ -32,7 +33,7 @@ returns-in-List-clause-feeds g c =
 pub returns-in_default-clause-feeds : goal.returns-in_default-clause-feeds
 returns-in_default-clause-feeds g c =
     let fed = c.gp0.ensures in
-    let not : IsBuffered c.args.event_in_mode.mode → ⊥ = search rules in
-    quiet_feeds c.args.event_in_mode.mode c.args.event_in_mode.number c.args.word c.gp0.result _ _ _ _ not refl refl
+    let not : IsBuffered c.args.word.within.mode → ⊥ = search rules in
+    quiet_feeds c.args.word.within.mode c.args.word.within.number c.args.word.value c.gp0.result _ _ _ _ not refl refl
     refl fed.feed
     fed.note fed.taps fed.cost

@@ -1,5 +1,5 @@
 use Rattle.std.proofs.Common.{◌+◌, ◌-◌, List, Ok, Err, option_to_list, take, drop, length, length-drop}
-use Rattle.std.proofs.Common.{◌∙◌, subst, arith}
+use Rattle.std.proofs.Common.{◌∙◌, subst, sym, arith}
 use Rattle.gathered_out.specs.Pieces.{Piece}
 use Rattle.gathered_out.specs.Puts.{holding}
 use Rattle.event_play.specs.Listing.{ArePut, PutsPieces, listed_pieces}
@@ -31,7 +31,7 @@ returns-in-Err-clause-puts g c = λ t first told.
     let within = c.feed_noted-fed.ensures.within in
     let before = c.words.invariant.told t first told in
     let was = holding (g.K.Sink.held c.args.lines.now.out.now) c.args.lines.now.buffered.now in
-    let now = holding (g.K.Sink.held c.put_noted.new.lines.out.now) c.put_noted.new.lines.buffered.now in
+    let now = holding (g.K.Sink.held c.put_listed.new.lines.out.now) c.put_listed.new.lines.buffered.now in
     let P : List Piece → Type 0 = λ pieces. PutsPieces {Value = Unit {0}} pieces was now (Err c.in-Err.lacking) in
     fails_on was now t (take (at + count) words) _ words c.in-Err.lacking
     (rest_both words (at + count) (let long = length-drop at words in omega (arith, le, within, long)))
@@ -41,7 +41,21 @@ returns-in-Err-clause-puts g c = λ t first told.
     (c.feed_noted-fed.ensures.gives (after_words t (take at words)) first before))
     (put_on was _ now (listed_pieces (word_notes t (take at words)))
     (listed_pieces (option_to_list c.feed_noted-fed.result.note)) (Err c.in-Err.lacking)
-    (c.words.invariant.puts t first told) c.in-Err.ensures.puts))
+    (c.words.invariant.puts t first told) c.in-Err.ensures.puts.puts))
+
+pub returns-in-Err-clause-cause : goal.returns-in-Err-clause-cause
+returns-in-Err-clause-cause g c =
+    let a = c.words.invariant.faults in let b = c.in-Err.ensures.puts.cause in omega (arith, a, b)
+
+pub returns-in-Err-clause-faults : goal.returns-in-Err-clause-faults
+returns-in-Err-clause-faults g c =
+    let a = c.words.invariant.faults in let b = c.in-Err.ensures.puts.faults in omega (arith, a, b)
+
+pub returns-in-Err-clause-buffered : goal.returns-in-Err-clause-buffered
+returns-in-Err-clause-buffered g c = sym c.in-Err.ensures.same.0 ∙ c.words.invariant.buffered
+
+pub returns-in-Err-clause-out : goal.returns-in-Err-clause-out
+returns-in-Err-clause-out g c = sym c.in-Err.ensures.same.1 ∙ c.words.invariant.out
 
 pub words-preserved : goal.words-preserved
 words-preserved g c =
@@ -59,7 +73,7 @@ words-preserved g c =
       puts = λ t first told.
           let before = c.words.invariant.told t first told in
           let was = holding (g.K.Sink.held c.args.lines.now.out.now) c.args.lines.now.buffered.now in
-          let now = holding (g.K.Sink.held c.put_noted.new.lines.out.now) c.put_noted.new.lines.buffered.now in
+          let now = holding (g.K.Sink.held c.put_listed.new.lines.out.now) c.put_listed.new.lines.buffered.now in
           let P : List Piece → Type 0 = λ pieces. ArePut pieces was now in
           subst P
           (pieces_on t (take at words) (take count (take (length words - at) (drop at words)))
@@ -67,8 +81,8 @@ words-preserved g c =
           (c.feed_noted-fed.ensures.gives (after_words t (take at words)) first before))
           (put_on was _ now (listed_pieces (word_notes t (take at words)))
           (listed_pieces (option_to_list c.feed_noted-fed.result.note)) (Ok c.in_default.field-0)
-          (c.words.invariant.puts t first told) c.in_default.ensures.puts).ok;
-      faults = let a = c.words.invariant.faults in let b = c.in_default.ensures.faults in omega (arith, a, b);
-      buffered = c.in_default.ensures.buffered ∙ c.words.invariant.buffered;
-      out = c.in_default.ensures.out ∙ c.words.invariant.out;
+          (c.words.invariant.puts t first told) c.in_default.ensures.puts.puts).ok;
+      faults = let a = c.words.invariant.faults in let b = c.in_default.ensures.puts.faults in omega (arith, a, b);
+      buffered = sym c.in_default.ensures.same.0 ∙ c.words.invariant.buffered;
+      out = sym c.in_default.ensures.same.1 ∙ c.words.invariant.out;
     }

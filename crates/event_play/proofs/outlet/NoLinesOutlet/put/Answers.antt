@@ -1,7 +1,11 @@
 use Rattle.std.proofs.Common.{refl, arith}
-use Rattle.event_play.proofs.Putting.{put_through}
+use Rattle.gathered_out.specs.Pieces.{piece}
+use Rattle.event_play.proofs.Outlets.{put_out}
 use Rattle.event_play.proofs.outlet.NoLinesOutlet.put.Goals as goal
 
 pub returns-clause-puts : goal.returns-clause-puts
-returns-clause-puts c =
-    record { ok = put_through _ _ _ _ refl; failed = tt; cause = tt; faults = omega arith }
+returns-clause-puts c = record {
+  puts = record { ok = put_out (piece c.args.number c.args.line.now) _ _ refl; failed = tt };
+  cause = tt;
+  faults = omega arith;
+}

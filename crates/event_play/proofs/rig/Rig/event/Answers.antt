@@ -1,6 +1,11 @@
 use Rattle.event_play.specs.RigState.{RigState}
 use Rattle.event_play.proofs.Events.{step_fault, has_done, only_stepped}
+use Rattle.event_play.proofs.OwnWords.{word_steps}
 use Rattle.event_play.proofs.rig.Rig.event.Goals as goal
+
+pub returns-in-Gp0-clause-stepped : goal.returns-in-Gp0-clause-stepped
+returns-in-Gp0-clause-stepped g c =
+    rw c.in-Gp0.is (λ s stands. word_steps s _ c.in-Gp0.word _ _ _ (c.take_word.ensures.tells s stands))
 
 pub returns-in-Ok-perform-clause-stepped : goal.returns-in-Ok-perform-clause-stepped
 returns-in-Ok-perform-clause-stepped g c =
