@@ -44,25 +44,15 @@ command_of names = command_by (letters (slice_index_or names 0 [])) (frame_trigg
 
 -- a command is determined by its names
 is_named : (command : Command) → IsCommand command → command_of (names_of command) ≡ command
-is_named (Plays Words) is = refl
-is_named (Plays Vram) is = refl
-is_named (Plays Shot) is = refl
 is_named (Plays (Frames Flip)) is = refl
-is_named (Plays (Frames Mark)) is = refl
 is_named (Plays (Sums Flip)) is = refl
-is_named (Plays (Sums Mark)) is = refl
-is_named (Plays Listing) is = refl
-is_named (Plays Report) is = refl
 is_named (Plays (Pixel cell)) is =
     ap (λ x. Plays (Pixel (record { x = x; y = digits_value 10 (decimal cell.y) })))
     (decimal_is_IsNumeral cell.x (omega (arith, is.0))).1
     ∙ ap (λ y. Plays (Pixel (record { x = cell.x; y = y }))) (decimal_is_IsNumeral cell.y (omega (arith, is.1))).1
-is_named Flat is = refl
-is_named Slim is = refl
 is_named (Cut n) is = ap Cut (decimal_is_IsNumeral n (omega (arith, is.1))).1
 is_named (Demo n) is = ap Demo (decimal_is_IsNumeral n (omega (arith, is.1))).1
-is_named Help is = refl
-is_named Version is = refl
+is_named command is = refl
 
 pub same_command : (names : List (List ℕ)) (a b : Command) → AreNames names a → AreNames names b → a ≡ b
 same_command names a b one other =

@@ -3,7 +3,7 @@ use Rattle.std.proofs.Common.{◌≡◌, ◌≤◌, ◌<◌, ◌+◌, ◌%◌, �
 use Rattle.std.proofs.Common.{slice_index, arith, refl, ap, ◌∙◌}
 use Rattle.std.specs.List.{range_with_len}
 use Rattle.std.proofs.lemmas.Grind.{flat_map-append}
-use Rattle.std.proofs.lemmas.List.{append-nil}
+use Rattle.std.proofs.lemmas.List.{append-nil, map-id}
 use Rattle.std.proofs.lemmas.List.FromFn.{map-range_with_len_more, length-map-range_with_len}
 use Rattle.psxgpu_tool.specs.Demo.{opcodes, lengths, length_of, drawn, after_draws, packet_word}
 use Rattle.psxgpu_tool.specs.Demo.{number_before}
@@ -37,17 +37,13 @@ words_on k number j word words now is before next =
 pub draws_more : (n number : ℕ) → drawn (after_draws n number) ≡ after_draws (n + 1) number
 draws_more n number = let e : n + 1 ≡ suc n = omega arith in rw e refl
 
--- the numbers below one more
-range_more : (a n j : ℕ) → a + n ≡ j → range_with_len a (n + 1) ≡ range_with_len a n ++ j ∷ []
-range_more a zero j is = let same : a ≡ j = omega (arith, is) in ap (λ x. x ∷ []) same
-range_more a (suc n) j is =
-    let e : suc n + 1 ≡ suc (n + 1) = omega arith in
-    rw e (ap (λ xs. a ∷ xs) (range_more (a + 1) n j (omega (arith, is))))
-
 pub lists_more : (f : ℕ → List ℕ) (k : ℕ)
     → flat_map f (range_with_len 0 (k + 1)) ≡ flat_map f (range_with_len 0 k) ++ f k
 lists_more f k =
-    ap (flat_map f) (range_more 0 k k (omega arith)) ∙ flat_map-append f (range_with_len 0 k) (k ∷ [])
+    let below : range_with_len 0 (k + 1) ≡ range_with_len 0 k ++ k ∷ [] =
+    simp map-id at (map-range_with_len_more (λ (x : ℕ). x) 0 k k (omega arith))
+    in
+    ap (flat_map f) below ∙ flat_map-append f (range_with_len 0 k) (k ∷ [])
     ∙ ap (λ xs. flat_map f (range_with_len 0 k) ++ xs) (append-nil (f k))
 
 -- the state of the generator after a packet

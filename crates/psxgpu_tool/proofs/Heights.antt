@@ -29,18 +29,10 @@ pixels_height p word =
 
 effect_height : (p : Parts) (what : Packet) → (effect_of p what).regs.height ≡ p.regs.height
 unfolding effect_of
-effect_height p (packet.Fill color x y w h) = refl
-effect_height p (packet.Copy from to w h) = refl
-effect_height p (packet.Load x y w h) = refl
-effect_height p (packet.Store x y w h) = refl
 effect_height p (packet.Pixels word) = pixels_height p word
 effect_height p (packet.Env index value) = env_height p.regs index value
-effect_height p packet.Irq = refl
 effect_height p (packet.Poly four a b c d shaded textured semi raw clut page) = page_height p.regs textured page
-effect_height p (packet.Segment a b semi) = refl
-effect_height p (packet.Rect x y w h color textured semi raw u v clut) = refl
-effect_height p packet.Nop = refl
-effect_height p packet.Finish = refl
+effect_height p what = refl
 
 item_height : (p : Parts) (new : Option Item) → (after_item p new).regs.height ≡ p.regs.height
 item_height p None = refl

@@ -1,4 +1,4 @@
--- The four ways in which the file name is separated from the arguments.
+-- Three of the four ways in which the file name is separated from the arguments.
 use Rattle.std.proofs.Common.{◌≡◌, ◌∷◌, ◌++◌, [], List, Bool, String, Option, None, Some, IsSome, option_to_list}
 use Rattle.std.proofs.Common.{map, string_bytes, refl, sym, ap, ◌∙◌}
 use Rattle.std.specs.declared.alloc.Global.{Global}
@@ -6,14 +6,6 @@ use Rattle.psxgpu_tool.proofs.LastWord.{same_parts}
 use Rattle.psxgpu_tool.specs.Command.{AreNames}
 use Rattle.psxgpu_tool.specs.Typed.{AsksForHelp, EndsInFile, HasFile, IsTyped, NamesAny, Words}
 use Rattle.psxgpu_tool.specs.declared.command.Command.TheVariants.{Help}
-
-pub typed_command : (is_there : Bool) (words : Words) → NamesAny words → IsTyped is_there words words None
-typed_command is_there words named = record {
-  command = λ _. (refl, refl);
-  help = λ unnamed _. absurd (unnamed named);
-  reading = λ unnamed _ _ _ _. absurd (unnamed named);
-  other = λ _ _ _. (refl, refl);
-}
 
 pub typed_help : (is_there : Bool) (words typed : Words) → ¬ NamesAny words → AsksForHelp words →
     AreNames (map string_bytes typed) Help → IsTyped is_there words typed None

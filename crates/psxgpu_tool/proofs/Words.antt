@@ -1,9 +1,9 @@
 -- Words that are played in order.
-use Rattle.std.proofs.Common.{◌≡◌, ◌≤◌, ◌+◌, ◌<◌, ◌++◌, ℕ, zero, suc, List, [], ◌∷◌, length, take, get_or, map}
+use Rattle.std.proofs.Common.{◌≡◌, ◌≤◌, ◌+◌, ◌<◌, ◌++◌, ℕ, List, [], ◌∷◌, length, take, get_or, map}
 use Rattle.std.proofs.Common.{Option, Result, Ok, Err, OnOk, IfOk, IfErr, option_to_list, arith, refl, ap, sym}
 use Rattle.std.proofs.Common.{append_assoc, ◌∙◌}
 use Rattle.std.proofs.lemmas.Grind.{fold-append}
-use Rattle.std.proofs.lemmas.List.{append-nil, map-append, take_all}
+use Rattle.std.proofs.lemmas.List.{append-nil, map-append, take_all, take_more}
 use Rattle.gp0_packets.specs.declared.note.Note.{Note}
 use Rattle.gpu_capture.specs.declared.event.Event.{Event}
 use Rattle.gpu_capture.specs.declared.event.Event.TheVariants.{Gp0}
@@ -109,19 +109,13 @@ pub none_on : (first : Replay) (words : List ℕ) (start now : Outlets) (rig : R
     → HavePlayed first (words ++ []) start now rig
 none_on first words start now rig played = rw append-nil played
 
-take_next : (xs : List ℕ) (i : ℕ) → i < length xs → take (i + 1) xs ≡ take i xs ++ get_or xs i 0 ∷ []
-take_next [] i lt = absurd (omega (arith, lt))
-take_next (x ∷ xs) zero lt = refl
-take_next (x ∷ xs) (suc i) lt = let e : suc i + 1
-    ≡ suc (i + 1) = omega arith in rw e (ap (λ ys. x ∷ ys) (take_next xs i (omega (arith, lt))))
-
 -- the next of some words
 pub words_next : (first : Replay) (done words : List ℕ) (i : ℕ) (start now : Outlets) (rig : RigState)
     → i < length words
     → HavePlayed first ((done ++ take i words) ++ get_or words i 0 ∷ []) start now rig
     → HavePlayed first (done ++ take (i + 1) words) start now rig
 words_next first done words i start now rig lt played =
-    rw (take_next words i lt, ← append_assoc done (take i words) (get_or words i 0 ∷ [])) played
+    rw (take_more words i 0 lt, ← append_assoc done (take i words) (get_or words i 0 ∷ [])) played
 
 -- all of them
 pub words_all : (first : Replay) (done words : List ℕ) (i : ℕ) (start now : Outlets) (rig : RigState) → length words ≤ i

@@ -2,14 +2,18 @@ use Rattle.std.proofs.Common.{refl, subst, ◌∙◌}
 use Rattle.event_play.specs.Step.{first_machine}
 use Rattle.psxgpu_tool.specs.Command.{IsCommand}
 use Rattle.psxgpu_tool.proofs.First.{first_stands}
-use Rattle.psxgpu_tool.proofs.Running.{plays_runs, cut_runs, demo_runs, flat_runs, slim_runs, nothing_played}
+use Rattle.psxgpu_tool.proofs.Cuts.{cut_runs}
+use Rattle.psxgpu_tool.proofs.Flats.{flat_runs}
+use Rattle.psxgpu_tool.proofs.Running.{demo_runs, nothing_played}
+use Rattle.psxgpu_tool.proofs.Slims.{slim_runs}
+use Rattle.psxgpu_tool.proofs.Told.{plays_runs}
 use Rattle.psxgpu_tool.proofs.run.run_command.Goals as goal
 
 pub returns-in-Ok : goal.returns-in-Ok
 returns-in-Ok g c =
     rw (c.in-Plays.is, c.end-in-Ok.ensures.status)
-    (plays_runs _ _ _ _ _ c.end-in-Ok.ensures.says
-    (λ zero. c.end-in-Ok.ensures.silent (c.end-in-Ok.ensures.status ∙ zero)) c.in-Plays.mode
+    (plays_runs c.in-Plays.mode _ _ _ _ _ c.end-in-Ok.ensures.says
+    (λ zero. c.end-in-Ok.ensures.silent (c.end-in-Ok.ensures.status ∙ zero))
     (c.play_any-ending.ensures.ends first_machine (first_stands _ refl))
     c.play_any-ending.ensures.read_cause c.play_any-ending.ensures.write_cause)
 
@@ -25,8 +29,8 @@ returns-in-Ok-new g c =
 pub returns-in-Ok-new-2 : goal.returns-in-Ok-new-2
 returns-in-Ok-new-2 g c =
     rw (c.in-Flat.is, c.end-in-Ok-new-2.ensures.status)
-    (flat_runs _ _ _ _ _ c.end-in-Ok-new-2.ensures.says
-    (λ zero. c.end-in-Ok-new-2.ensures.silent (c.end-in-Ok-new-2.ensures.status ∙ zero)) c.flat-ending.new.rig
+    (flat_runs _ _ _ _ c.flat-ending.new.rig _ c.end-in-Ok-new-2.ensures.says
+    (λ zero. c.end-in-Ok-new-2.ensures.silent (c.end-in-Ok-new-2.ensures.status ∙ zero))
     (c.flat-ending.ensures.ends first_machine (first_stands _ c.in-Ok-new-2.ensures)) c.flat-ending.ensures.known
     c.flat-ending.ensures.read_cause c.flat-ending.ensures.write_cause)
 
@@ -34,8 +38,8 @@ pub returns-in-Ok-new-3 : goal.returns-in-Ok-new-3
 returns-in-Ok-new-3 g c =
     let most = (subst IsCommand c.in-Cut.is c.requires).1 in
     rw (c.in-Cut.is, c.end-in-Ok-new-3.ensures.status)
-    (cut_runs c.in-Cut.events most _ _ _ _ _ c.end-in-Ok-new-3.ensures.says
-    (λ zero. c.end-in-Ok-new-3.ensures.silent (c.end-in-Ok-new-3.ensures.status ∙ zero)) c.cut-ending.new.rig
+    (cut_runs c.in-Cut.events most _ _ _ _ c.cut-ending.new.rig _ c.end-in-Ok-new-3.ensures.says
+    (λ zero. c.end-in-Ok-new-3.ensures.silent (c.end-in-Ok-new-3.ensures.status ∙ zero))
     (c.cut-ending.ensures.ends first_machine (first_stands _ c.in-Ok-new-3.ensures)) c.cut-ending.ensures.known
     c.cut-ending.ensures.read_cause c.cut-ending.ensures.write_cause)
 
