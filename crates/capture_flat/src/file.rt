@@ -1,7 +1,4 @@
 // The file that is written.
-/// The maximum length of the file in bytes.
-pub(crate) const LIMIT: u32 = 1 << 30;
-
 /// `version`: that of the capture read. `size`: length of the file in bytes, including buffered records.
 #[derive(Clone, Copy)]
 pub struct FlatFile {

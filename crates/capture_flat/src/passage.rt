@@ -3,15 +3,14 @@ ghost use Rattle.std.specs.Prelude.{◌≡◌, ◌≤◌, ◌<◌, ◌+◌, ◌*
 
 use crate::allowed::{allowed, slice_allowed};
 use crate::block::put_words;
-use crate::file::{FlatFile, LIMIT};
+use crate::file::FlatFile;
 use crate::pass::{due_size, put_due, put_last};
 use crate::refusal::FlatRefusal;
-use crate::whole::raise;
 use dev_io::Sink;
 use event_loop::{Halt, Passage};
 use event_play::Rig;
 use gathered_out::OutputBuffer;
-use gpu_capture::{Event, Stop};
+use gpu_capture::{Event, LIMIT, Stop};
 use gpu_taps::Listener;
 use std::sync::ledger::Ledger;
 use vram_store::Steps;
@@ -71,7 +70,7 @@ impl<'a, T: Listener, L: Ledger> Passage for Flattening<'a, T, L> {
 
     fn begin(&mut self, version: u8) {
         self.file = FlatFile { version, size: 0 };
-        raise(self.rig, version);
+        self.rig.raise(version);
     }
 
     fn take<K: Sink>(

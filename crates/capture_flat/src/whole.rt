@@ -1,8 +1,8 @@
 // Reads, plays and writes a whole capture.
 ghost use Rattle.std.specs.Prelude.{◌≡◌, ◌≤◌, map};
 ghost use Rattle.dev_io.specs.Device.{Rose};
-ghost use Rattle.event_play.specs.Replay.{Replay, from_state, raised};
-ghost use Rattle.event_play.specs.RigState.{Stands, StandsFor};
+ghost use Rattle.event_play.specs.Replay.{from_state};
+ghost use Rattle.event_play.specs.RigState.{Stands};
 ghost use Rattle.event_play.specs.Step.{Machine};
 ghost use Rattle.event_play.specs.Streams.{streams};
 ghost use Rattle.capture_flat.specs.Passing.{EndsFlat, MayReadFault, MayWriteFault, IsEnding};
@@ -17,9 +17,6 @@ use gpu_capture::EventReader;
 use gpu_taps::Listener;
 use std::sync::ledger::Ledger;
 use vram_store::Steps;
-
-/// Captures of this version are played in the tall profile (1024 rows of video memory).
-const TALL_VERSION: u8 = 3;
 
 /// Plays a capture on a rig that has played no event, and writes the capture of its flat events. The output has version
 /// 3 if the capture has, otherwise version 2. An event is played before its records are added. The words of a Gp0
@@ -89,13 +86,4 @@ fn flatten<S: Source, K: Sink, T: Listener, L: Ledger>(
 {
     let mut reader = EventReader::new();
     flat_ending(pass_all(flattening, &mut reader, source, out))
-}
-
-// Changes to the tall profile if captures of `version` are played in it.
-pub(crate) fn raise(rig: &mut Rig, version: u8)
-    ensures { (t : Replay) → StandsFor rig.old t → StandsFor rig.new (raised t version) }
-{
-    if version == TALL_VERSION {
-        rig.set_tall();
-    }
 }

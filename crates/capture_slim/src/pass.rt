@@ -11,15 +11,12 @@ use crate::file::{Draft, SlimFile};
 use crate::slim::{finish, take_event};
 use crate::waiting::Waiting;
 use dev_io::{Sink, Source};
-use event_play::write_at_pause;
+use event_play::{TALL_VERSION, write_at_pause};
 use gathered_out::OutputBuffer;
 use gpu_capture::EventReader;
 use px_num::OutOfMemory;
 use std::alloc::Global;
 use std::marker::Model;
-
-/// Captures of this version are replayed with 1024 rows of video memory.
-const TALL_VERSION: u8 = 3;
 
 /// Removes dead drawing from a capture. In contracts, a value is the window of events that are not yet written.
 #[derive(Drop)]

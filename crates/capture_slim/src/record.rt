@@ -15,10 +15,7 @@ use crate::file::{Draft, SlimFile};
 use arrayvec::ArrayVec;
 use dev_io::{Failed, Sink};
 use gathered_out::OutputBuffer;
-use gpu_capture::{Event, RECORD_MOST, head_bytes, record_bytes, write_end, write_start};
-
-/// The maximum length of the written file, in bytes.
-const LIMIT: u32 = 1 << 30;
+use gpu_capture::{Event, LIMIT, RECORD_MOST, head_bytes, record_bytes, write_end, write_start};
 
 /// The maximum length in bytes of a record together with the file header.
 const DUE_MOST: usize = 16;

@@ -27,7 +27,7 @@ put_out p before now wrote = record {
 pub one_line : (number : ℕ) (bytes : List ℕ) → ArePieces number bytes (piece number bytes ∷ [])
 one_line number bytes = record { numbers = (refl, tt); bytes_are = append-nil bytes }
 
--- more pieces are gathered behind all that are
+-- more pieces are buffered after those that are
 buffered_on : (at : Holding) (pieces : List Piece) (base : Option (List ℕ)) (all : List Piece)
     → AreOut base all at.held at.buffered → AreOut base (all ++ pieces) at.held (at.buffered ++ pieces)
 buffered_on at pieces base all out = record {

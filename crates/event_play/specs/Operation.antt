@@ -113,7 +113,7 @@ IsOperation operation.Stat = Unit {0}
 IsOperation (operation.Clear madr n) = (1 ≤ n) × (n ≤ 2 ^ 16)
 IsOperation (operation.Begin next) = IsRun next
 
--- ---- works without words
+-- ---- operations without words
 
 abbrev pub FeedsNoWord : Operation → Type 0
 FeedsNoWord (operation.Feed fed next) = ⊥

@@ -127,7 +127,7 @@ impl Rig {
         }
     }
 
-    /// Takes on the profile in which captures of this version are played.
+    /// Makes the machine tall (1024 rows of video memory) if captures of `version` are played so.
     pub fn raise(&mut self, version: u8)
         ensures { (t : Replay) → StandsFor self.old t → StandsFor self.new (raised t version) }
     {

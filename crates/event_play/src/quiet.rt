@@ -13,7 +13,7 @@ use std::sync::ledger::Ledger;
 use vram_store::Steps;
 
 impl Rig {
-    /// Performs a work that feeds no word. Returns the word that it shows.
+    /// Performs an operation that feeds no word. Returns the word that it shows.
     #[inline(always)]
     pub(crate) fn perform_quiet<L: Ledger>(
         &mut self,

@@ -20,7 +20,7 @@ mod write;
 pub use block::WordBlock;
 pub use event::{Event, Stop};
 pub use head::head_among;
-pub use progress::Progress;
+pub use progress::{LIMIT, Progress};
 pub use reader::EventReader;
 pub use record::Expected;
 pub use write::{

@@ -13,7 +13,8 @@ use crate::record::{Expected, Step, read_step};
 use byteorder::{ByteOrder, LittleEndian};
 use dev_io::{Source, fill};
 
-pub(crate) const LIMIT: u32 = 1 << 30;
+/// The maximum length of a capture in bytes.
+pub const LIMIT: u32 = 1 << 30;
 
 /// The file headers of versions 1 to 3, in this order.
 const HEADS: [[u8; 8]; 3] = [*b"PSXGPUC1", *b"PSXGPUC2", *b"PSXGPUC3"];

@@ -10,14 +10,11 @@ use crate::head::{FileHead, take_head};
 use crate::profile::set_profile;
 use crate::restore::restore;
 use dev_io::Source;
-use event_play::Rig;
+use event_play::{Rig, TALL_VERSION};
 use gpu_capture::EventReader;
 use snapshot_words::SnapFault;
 use std::sync::ledger::Ledger;
 use vram_store::Steps;
-
-/// Captures of this version are replayed with 1024 rows of video memory.
-const TALL_VERSION: u8 = 3;
 
 /// The byte offset after the magic number.
 const AFTER_HEAD: u32 = 8;
