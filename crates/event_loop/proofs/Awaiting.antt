@@ -53,7 +53,7 @@ pub record Reaches (m : Matter) (before now : Ports) (buffered : List Piece) (ev
 pub record LiesAfter (since : ℕ) (p : Progress) (after : List ℕ) : Type 0 where
   pub at : Progress
   pub known : 1 ≤ at.version
-  pub place : at.place ≡ since
+  pub offset : at.offset ≡ since
   pub events : List Event
   pub says : (rest : List ℕ) → capture_from at (after ++ rest) ≡ then_events events (capture_from p rest)
 
@@ -104,7 +104,7 @@ awaits_is m before now buffered since p events next other is awaits =
 -- ---- the beginning
 
 module _ (m : Matter) (left left_now held : Option (List ℕ)) (start new : Progress) (buffered : List Piece) (since : ℕ)
-    (empty : buffered ≡ []) (place : since ≡ new.place) (read_is : m.read ≡ capture_from start)
+    (empty : buffered ≡ []) (offset : since ≡ new.offset) (read_is : m.read ≡ capture_from start)
     (version_is : m.version ≡ new.version) where
   reached : (next : Result Event Stop) (taken : List ℕ) → left ≡ prepended taken left_now
       → SaysNext m since new left_now next [] taken []
@@ -133,7 +133,7 @@ module _ (m : Matter) (left left_now held : Option (List ℕ)) (start new : Prog
         needed = rw read_is (needed_first start event takes.taken takes.needed);
         known = known;
         same = sym version_is;
-        lies = record { at = new; known = known; place = sym place; events = []; says = λ rest. refl };
+        lies = record { at = new; known = known; offset = sym offset; events = []; says = λ rest. refl };
       })
   starts (Err stop) takes known stops =
       reached (Err stop) stops.taken stops.bytes (record {
@@ -149,14 +149,14 @@ module _ (m : Matter) (left left_now held : Option (List ℕ)) (start new : Prog
 
 module _ (m : Matter) (before now : Ports) (buffered : List Piece) (since : ℕ) (old new : Progress)
     (events : List Event) (left : Option (List ℕ)) (on : GoesOn m before now buffered since old events)
-    (near : old.place < since + 4096) where
+    (near : old.offset < since + 4096) where
   few_more : (ys : List ℕ) → ReaderNeeds old ys → length (on.after ++ ys) ≤ most_after
   few_more ys needed =
       let lies = on.says.lies in
       let all = length-append on.after ys in
-      let place = lies.place in
+      let offset = lies.offset in
       let few = few_between lies.at old lies.events on.after ys lies.known on.says.known lies.says
-      (omega (arith, near, place)) needed in
+      (omega (arith, near, offset)) needed in
       omega (arith, all, few)
 
   answered : (next : Result Event Stop) (ys : List ℕ) → now.left ≡ prepended ys left → ReaderNeeds old ys
@@ -183,7 +183,7 @@ module _ (m : Matter) (before now : Ports) (buffered : List Piece) (since : ℕ)
       record {
         at = lies.at;
         known = lies.known;
-        place = lies.place;
+        offset = lies.offset;
         events = lies.events ++ event ∷ [];
         says = says_on (capture_from lies.at) old new lies.events (event ∷ []) on.after ys lies.says says;
       }
@@ -223,11 +223,11 @@ module _ (m : Matter) (before now : Ports) (buffered : List Piece) (since : ℕ)
 pub record Paused (m : Matter) (before now : Ports) (buffered : List Piece) (since : ℕ) (p : Progress)
     (events : List Event) : Type 0 where
   pub on : GoesOn m before now buffered since p events
-  pub near : p.place < since + 4096
+  pub near : p.offset < since + 4096
 
 pub pauses_on : (m : Matter) (before now : Ports) (buffered new : List Piece) (since at : ℕ) (p : Progress)
     (events : List Event) (held : Option (List ℕ)) → GoesOn m before now buffered since p events
-    → Pauses p.place since (holding now.held buffered) (holding held new) at
+    → Pauses p.offset since (holding now.held buffered) (holding held new) at
     → Paused m before (ports now.left held) new at p events
 pauses_on m before now buffered new since at p events held was (inl on) = record {
   on = rw (on.0, on.2, on.3) was;
@@ -248,7 +248,7 @@ pauses_on m before now buffered new since at p events held was (inr written) =
           needed = was.says.needed;
           known = was.says.known;
           same = was.says.same;
-          lies = record { at = p; known = was.says.known; place = sym e; events = []; says = λ rest. refl };
+          lies = record { at = p; known = was.says.known; offset = sym e; events = []; says = λ rest. refl };
         };
         few = omega arith;
         buffers = rw written.1
@@ -321,10 +321,10 @@ module _ (m : Matter) (before now : Ports) (buffered : List Piece) (since : ℕ)
       }
 
 -- a property of the buffered output that also holds of none
-pub pauses_wait : (P : List Piece → Type 0) (place since at : ℕ) (before now : Holding)
-    → Pauses place since before now at → P before.buffered → P [] → P now.buffered
-pauses_wait P place since at before now (inl on) was none = rw on.2 was
-pauses_wait P place since at before now (inr written) was none = rw written.1 none
+pub pauses_wait : (P : List Piece → Type 0) (offset since at : ℕ) (before now : Holding)
+    → Pauses offset since before now at → P before.buffered → P [] → P now.buffered
+pauses_wait P offset since at before now (inl on) was none = rw on.2 was
+pauses_wait P offset since at before now (inr written) was none = rw written.1 none
 
 -- there is at least one event
 pub some_events : (events : List Event) (event : Event) → 1 ≤ length (events ++ event ∷ [])

@@ -200,7 +200,7 @@ module _ (m : Matter) (before now : Ports) (buffered : List Piece) (since : ℕ)
     (events : List Event) (left : Option (List ℕ)) (words : List ℕ)
     (on : GoesOn m before now buffered since old events)
     (takes : TakesWords (reader_input old now.left) (reader_input q left) words) (version_is : q.version ≡ old.version)
-    (near : q.place < since + 4096) (knows : KnowsEach m.knows events (word_events words)) where
+    (near : q.offset < since + 4096) (knows : KnowsEach m.knows events (word_events words)) where
   abbrev ws : List Event
   ws = word_events words
 
@@ -216,7 +216,7 @@ module _ (m : Matter) (before now : Ports) (buffered : List Piece) (since : ℕ)
       record {
         at = was.at;
         known = was.known;
-        place = was.place;
+        offset = was.offset;
         events = was.events ++ ws;
         says = says_on (capture_from was.at) old q was.events ws on.after takes.taken was.says takes.says;
       }
@@ -224,10 +224,10 @@ module _ (m : Matter) (before now : Ports) (buffered : List Piece) (since : ℕ)
   few : (further : List ℕ) → ReaderNeeds q further
       → length ((on.after ++ takes.taken) ++ further) ≤ most_after
   few further needed =
-      let place = lies.place in
+      let offset = lies.offset in
       let all = length-append (on.after ++ takes.taken) further in
       let few = few_between lies.at q lies.events (on.after ++ takes.taken) further lies.known known lies.says
-      (omega (arith, near, place)) needed in
+      (omega (arith, near, offset)) needed in
       omega (arith, all, few)
 
   -- the output so far, by more events and more bytes
@@ -335,7 +335,7 @@ pub words_lack : {R Got : Type 0} (m : Matter) (taker : Taker R) (before now : P
     → GoesOn m before now buffered since old events → (read : Result Got Stop)
     → OnOk read (TakesWords (reader_input old now.left) (reader_input q left) words)
     → IfErr read (λ stop. StopsAfterWords (reader_input old now.left) (reader_input q left) words stop)
-    → q.version ≡ old.version → q.place < since + 4096 → KnowsEach m.knows events (word_events words)
+    → q.version ≡ old.version → q.offset < since + 4096 → KnowsEach m.knows events (word_events words)
     → (held : Option (List ℕ)) (number : ℕ)
     → BreakPut (pieces_after m.due events (word_events words)) (holding now.held buffered) held number
     → WaitsAfter m.most events → taker.stands (events ++ word_events words)
@@ -360,6 +360,6 @@ words_lack m taker before now buffered since old q events left words on
 pub words_place : {Got : Type 0} (old q : Progress) (left after : Option (List ℕ)) (words : List ℕ)
     (read : Result Got Stop) → OnOk read (TakesWords (reader_input old left) (reader_input q after) words)
     → IfErr read (λ stop. StopsAfterWords (reader_input old left) (reader_input q after) words stop)
-    → q.place ≡ old.place + 4 * length words
-words_place old q left after words (Ok v) takes stops = takes.place
-words_place old q left after words (Err stop) takes stops = stops.takes.place
+    → q.offset ≡ old.offset + 4 * length words
+words_place old q left after words (Ok v) takes stops = takes.offset
+words_place old q left after words (Err stop) takes stops = stops.takes.offset

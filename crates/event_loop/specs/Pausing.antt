@@ -7,12 +7,12 @@ use Rattle.gathered_out.specs.Puts.{Holding, IsWritten}
 abbrev pub most_after : ℕ
 most_after = 4112
 
--- `place` is the byte offset of the reader, `since` that of the last flush. Either the output stays buffered, and fewer
+-- `offset` is the byte offset of the reader, `since` that of the last flush. Either the output stays buffered, and fewer
 -- than 4,096 bytes were read since. Or all is written, and `at` is the new offset.
-abbrev pub Pauses : (place since : ℕ) → (before now : Holding) → (at : ℕ) → Type 0
-Pauses place since before now at =
-    ((at ≡ since) × (place < since + 4096) × (now.buffered ≡ before.buffered) × (now.held ≡ before.held))
-    ⊎ ((at ≡ place) × (now.buffered ≡ []) × IsWritten before.held now.held before.buffered)
+abbrev pub Pauses : (offset since : ℕ) → (before now : Holding) → (at : ℕ) → Type 0
+Pauses offset since before now at =
+    ((at ≡ since) × (offset < since + 4096) × (now.buffered ≡ before.buffered) × (now.held ≡ before.held))
+    ⊎ ((at ≡ offset) × (now.buffered ≡ []) × IsWritten before.held now.held before.buffered)
 
 -- the output of every event after these may be buffered
 abbrev pub WaitsAfter : (most : List Event → Event → ℕ) → List Event → Type 0

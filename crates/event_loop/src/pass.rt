@@ -47,7 +47,7 @@ pub fn pass_all<P: Passage, S: Source, K: Sink>(
     let mut next = reader.next(source);
     let version = reader.version();
     passage.begin(version);
-    let mut since = reader.place();
+    let mut since = reader.offset();
     'events: loop {
         match next {
             Ok(event) => {
@@ -56,7 +56,7 @@ pub fn pass_all<P: Passage, S: Source, K: Sink>(
                     Err(halt) => return end_after(halt, &mut buffered, out),
                 }
                 match write_at_pause(reader, source, since, &mut buffered, out) {
-                    Ok(place) => since = place,
+                    Ok(offset) => since = offset,
                     Err(event) => return Ended::WriteFailed { event },
                 }
                 let most = words_at_once(passage, reader, source, since);
@@ -68,7 +68,7 @@ pub fn pass_all<P: Passage, S: Source, K: Sink>(
                     return end_reading(passage, stop, &mut buffered, out);
                 }
                 match write_at_pause(reader, source, since, &mut buffered, out) {
-                    Ok(place) => since = place,
+                    Ok(offset) => since = offset,
                     Err(event) => return Ended::WriteFailed { event },
                 }
                 next = reader.next(source);
@@ -78,22 +78,22 @@ pub fn pass_all<P: Passage, S: Source, K: Sink>(
     }
 }
 
-// Returns the most words of the open record that are read at once. The place after them is less than 4,096 bytes after
-// `since`, the place of the last flush. They wait for no byte, unless `passage` has nothing buffered at any time.
+// Returns the most words of the open record that are read at once. The offset after them is less than 4,096 bytes after
+// `since`, the offset of the last flush. They wait for no byte, unless `passage` has nothing buffered at any time.
 fn words_at_once<P: Passage, S: Source>(
     passage: &P,
     reader: &EventReader,
     source: &S,
     since: u32,
 ) -> usize
-    requires near { reader.now.progress.place < since + 4096 }
+    requires near { reader.now.progress.offset < since + 4096 }
     requires ready { P.ready passage.now [] }
-    ensures near { reader.now.progress.place + 4 * result < since + 4096 }
+    ensures near { reader.now.progress.offset + 4 * result < since + 4096 }
     ensures may { (n : ℕ) → n ≤ result → P.may_take passage.now n }
     ensures waits { (4 * result ≤ S.at_hand source.now)
         ⊎ ((pieces : List Piece) → P.ready passage.now pieces → pieces ≡ []) }
 {
-    let near = since.saturating_add(4095).saturating_sub(reader.place()) / 4;
+    let near = since.saturating_add(4095).saturating_sub(reader.offset()) / 4;
     let at_hand = source.ready() / 4;
     passage.most_words(at_hand).min(near as usize)
 }

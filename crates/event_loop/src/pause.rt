@@ -19,7 +19,7 @@ pub(crate) fn write_at_pause<S: Source, K: Sink>(
     buffered: &mut OutputBuffer,
     out: &mut K,
 ) -> Result<u32, u64>
-    ensures ok { IfOk result (Pauses reader.now.progress.place since
+    ensures ok { IfOk result (Pauses reader.now.progress.offset since
         (holding (K.held out.old) buffered.old) (holding (K.held out.new) buffered.new)) }
     ensures waits { OnOk result ((buffered.new ≡ []) ⊎ IsAtHand reader.now.progress (S.at_hand source.now)) }
     ensures failed { IfErr result (BreaksWriting (K.held out.old) (K.held out.new) buffered.old) }
@@ -28,7 +28,7 @@ pub(crate) fn write_at_pause<S: Source, K: Sink>(
 {
     if reader.pauses(source, since) {
         match buffered.write(out) {
-            Ok(()) => Ok(reader.place()),
+            Ok(()) => Ok(reader.offset()),
             Err(lacking) => Err(lacking),
         }
     } else {

@@ -12,7 +12,7 @@ events-init g c = record {
   awaits = λ s b. (
     [],
     c.begin.ensures.stands s b,
-    starts _ _ _ _ _ _ _ _ c.new-buffered.ensures c.place-since.ensures refl c.version-version.ensures.value
+    starts _ _ _ _ _ _ _ _ c.new-buffered.ensures c.offset-since.ensures refl c.version-version.ensures.value
         c.next-next.result c.next-next.ensures.takes c.next-next.ensures.version
         (c.next-next.ensures.stop c.requires),
   );
@@ -72,13 +72,13 @@ returns-in-Err-take_words-clause-ends g c = λ s b.
     (c.in-Ok-take.ensures.knows s version at.0 at.1) in
     let stands = c.in-Ok-take.ensures.stands s version at.0 at.1 in
     let some = some_events at.0 c.in-Ok.event in
-    let paused = pauses_on _ _ _ _ _ _ c.in-Ok-write_at_pause.place _ _ (g.K.Sink.held c.write_at_pause.new.out) on
+    let paused = pauses_on _ _ _ _ _ _ c.in-Ok-write_at_pause.offset _ _ (g.K.Sink.held c.write_at_pause.new.out) on
     c.in-Ok-write_at_pause.ensures.ok in
     let read = c.words-read.ensures in
     let few = read.few in
     let lacks = rw c.as_slice.ensures at (c.in-Err-take_words.ensures.lacks s version _ stands some) in (
       version,
-      words_lack _ _ _ _ _ c.in-Ok-write_at_pause.place _ _ _ _ _ paused.on c.words-read.result read.takes read.stop
+      words_lack _ _ _ _ _ c.in-Ok-write_at_pause.offset _ _ _ _ _ paused.on c.words-read.result read.takes read.stop
           read.goes_on.version (omega (arith, few, c.words_at_once-most.ensures.near))
           (rw c.as_slice.ensures at (c.take_words.ensures.knows s version _ stands some))
           (g.K.Sink.held c.take_words.new.out) c.in-Err-take_words.event lacks.0 lacks.1
@@ -111,12 +111,12 @@ returns-in-Err-read-clause-ends g c = λ s b.
     (c.in-Ok-take.ensures.knows s version at.0 at.1) in
     let stood = c.in-Ok-take.ensures.stands s version at.0 at.1 in
     let some = some_events at.0 c.in-Ok.event in
-    let paused = pauses_on _ _ _ _ _ _ c.in-Ok-write_at_pause.place _ _ (g.K.Sink.held c.write_at_pause.new.out) on
+    let paused = pauses_on _ _ _ _ _ _ c.in-Ok-write_at_pause.offset _ _ (g.K.Sink.held c.write_at_pause.new.out) on
     c.in-Ok-write_at_pause.ensures.ok in
     let read = c.words-read.ensures in
     let few = read.few in
     let stops = c.in-Err-read.ensures.stop in
-    let near : c.words-read.new.self.progress.place < c.in-Ok-write_at_pause.place + 4096 =
+    let near : c.words-read.new.self.progress.offset < c.in-Ok-write_at_pause.offset + 4096 =
     omega (arith, few, c.words_at_once-most.ensures.near) in
     let went = words_on _ _ _ _ _ _ _ _ _ _ paused.on stops.takes read.goes_on.version near
     (rw c.as_slice.ensures at (c.take_words.ensures.knows s version _ stood some))
@@ -125,7 +125,7 @@ returns-in-Err-read-clause-ends g c = λ s b.
     (c.in_default.ensures.near s version _ stood some) in
     let stands = rw c.as_slice.ensures at (c.take_words.ensures.stands s version _ stood some) in (
       version,
-      reading_ends _ _ _ _ _ c.in-Ok-write_at_pause.place c.words-read.new.self.progress _ c.in-Err-read.stop
+      reading_ends _ _ _ _ _ c.in-Ok-write_at_pause.offset c.words-read.new.self.progress _ c.in-Err-read.stop
           (reads _ _ _ _ _ _ c.words-read.new.self.progress _ _ went near (Err c.in-Err-read.stop) tt tt stops.stops)
           _ refl
           (g.K.Sink.held c.end_reading.new.out) c.end_reading.result
@@ -142,7 +142,7 @@ returns-in-Err-write_at_pause-2-clause-ends g c = λ s b.
     (c.in-Ok-take.ensures.knows s version at.0 at.1) in
     let stood = c.in-Ok-take.ensures.stands s version at.0 at.1 in
     let some = some_events at.0 c.in-Ok.event in
-    let paused = pauses_on _ _ _ _ _ _ c.in-Ok-write_at_pause.place _ _ (g.K.Sink.held c.write_at_pause.new.out) on
+    let paused = pauses_on _ _ _ _ _ _ c.in-Ok-write_at_pause.offset _ _ (g.K.Sink.held c.write_at_pause.new.out) on
     c.in-Ok-write_at_pause.ensures.ok in
     let read = c.words-read.ensures in
     let few = read.few in
@@ -171,7 +171,7 @@ events-preserved g c =
           (c.in-Ok-take.ensures.knows s version at.0 at.1) in
           let stood = c.in-Ok-take.ensures.stands s version at.0 at.1 in
           let some = some_events at.0 c.in-Ok.event in
-          let paused = pauses_on _ _ _ _ _ _ c.in-Ok-write_at_pause.place _ _
+          let paused = pauses_on _ _ _ _ _ _ c.in-Ok-write_at_pause.offset _ _
           (g.K.Sink.held c.write_at_pause.new.out) on c.in-Ok-write_at_pause.ensures.ok in
           let read = c.words-read.ensures in
           let few = read.few in
@@ -181,7 +181,7 @@ events-preserved g c =
           (g.K.Sink.held c.take_words.new.out) c.take_words.new.buffered
           (rw c.as_slice.ensures at (c.in_default.ensures.put s version _ stood some))
           (c.in_default.ensures.near s version _ stood some) in
-          let again = pauses_on _ _ _ _ _ _ c.in-Ok-write_at_pause-2.place _ _
+          let again = pauses_on _ _ _ _ _ _ c.in-Ok-write_at_pause-2.offset _ _
           (g.K.Sink.held c.write_at_pause-in-Ok.new.out) went c.in-Ok-write_at_pause-2.ensures.ok in (
             (at.0 ++ c.in-Ok.event ∷ []) ++ word_events c.words-read.new.block,
             rw c.as_slice.ensures at (c.take_words.ensures.stands s version _ stood some),
@@ -189,7 +189,7 @@ events-preserved g c =
                 c.next-next-in-Ok.ensures.version (c.next-next-in-Ok.ensures.stop running),
           );
       event = c.next-next-in-Ok.ensures.event;
-      ready = pauses_wait (g.P.Passage.ready c.take_words.new.self) _ _ c.in-Ok-write_at_pause-2.place _ _
+      ready = pauses_wait (g.P.Passage.ready c.take_words.new.self) _ _ c.in-Ok-write_at_pause-2.offset _ _
           c.in-Ok-write_at_pause-2.ensures.ok c.in_default.ensures.ready
           (g.met.P.Passage.ready_after _ _ c.in_default.ensures.ready);
       running = c.next-next-in-Ok.ensures.keeps.runs_on;
