@@ -92,7 +92,7 @@ whole_breaks number bytes held now part =
 pub reads_all : (p : Progress) → IsStart p → capture_from p ≡ capture
 reads_all p start =
     let by : Bool → List ℕ → Captured = λ is bytes.
-    cond is (then_events (replicate p.left p.repeated) (records p.version p.due p.offset bytes)) (capture bytes) in
+    cond is (then_events (replicate p.left p.repeated) (records p.version p.expected p.offset bytes)) (capture bytes) in
     ap by (ap (nat_lt 0) start.version)
 
 -- bytes that say these events say the first of them
