@@ -1,5 +1,6 @@
 -- Sums of the channels of two pixels, all at once.
-use Rattle.std.proofs.Common.{ℕ, zero, suc, ◌+◌, ◌-◌, ◌*◌, ◌/◌, ◌%◌, ◌^◌, ◌≡◌, ◌≤◌, ◌<◌, ◌∙◌, min, arith, refl, inl, inr}
+use Rattle.std.proofs.Common.{ℕ, zero, suc, ◌+◌, ◌-◌, ◌*◌, ◌/◌, ◌%◌, ◌^◌, ◌≡◌, ◌≤◌, ◌<◌, ◌∙◌, min, arith, refl, inl}
+use Rattle.std.proofs.Common.{inr}
 use Rattle.std.proofs.lemmas.Bool.{cases_lt}
 use Rattle.std.specs.Int.Bits.{or_zero_r}
 use Rattle.std.proofs.lemmas.Nat.{or_block, or_lt, le_or_r, xor_mod, xor_shr}
@@ -73,7 +74,8 @@ whole_is s odd h full r g u lr lg lu s_is odd_at h_is full_at =
     let even : s - odd ≡ 2 * packed (r / 2) (g / 2) (u / 2) = omega (arith, s_is, odd_at) in
     let fulls = rw h_is at full_at in
     let marks : full ≡ packed (r / 2 / 16) (g / 2 / 16) (u / 2 / 16) =
-    fulls ∙ full_is (s - odd) (r / 2) (g / 2) (u / 2) (omega (arith, lr)) (omega (arith, lg)) (omega (arith, lu)) even in
+    fulls ∙ full_is (s - odd) (r / 2) (g / 2) (u / 2) (omega (arith, lr)) (omega (arith, lg))
+    (omega (arith, lu)) even in
     let low : s - full * 32 ≡ packed (r - 32 * (r / 32)) (g - 32 * (g / 32)) (u - 32 * (u / 32)) =
     omega (arith, marks, s_is) in
     let high : full * 31 ≡ packed (31 * (r / 32)) (31 * (g / 32)) (31 * (u / 32)) = omega (arith, marks) in
@@ -81,7 +83,8 @@ whole_is s odd h full r g u lr lg lu s_is odd_at h_is full_at =
       low,
       high,
       or_packed (r - 32 * (r / 32)) (g - 32 * (g / 32)) (u - 32 * (u / 32)) (31 * (r / 32)) (31 * (g / 32))
-          (31 * (u / 32)) (omega arith) (omega arith) (omega arith) (omega (arith, lr)) (omega (arith, lg)) (omega (arith, lu)),
+          (31 * (u / 32)) (omega arith) (omega arith) (omega arith) (omega (arith, lr)) (omega (arith, lg))
+          (omega (arith, lu)),
       or_full r lr,
       or_full g lg,
       or_full u lu,
@@ -109,7 +112,8 @@ pub sum_joined : (b f s x odd even h full p m d q n v : ℕ) → b < 2 ^ 15 → 
     → v ≡ bit_or d n
     → v
     ≡ packed (min (red5_of b + red5_of f) 31) (min (green5_of b + green5_of f) 31) (min (blue5_of b + blue5_of f) 31)
-sum_joined b f s x odd even h full p m d q n v lb lf s_is x_is odd_at even_is h_is full_at p_is m_is d_is q_is n_is v_is =
+sum_joined b f s x odd even h full p m d q n v lb lf s_is x_is odd_at even_is h_is full_at p_is m_is d_is q_is n_is
+    v_is =
     let halved : h ≡ (b + f - odd) / 2 ^ 5 = rw (even_is, s_is) at h_is in
     let low : d ≡ b + f - full * 32 = rw (m_is, p_is, s_is) at d_is in
     let high : n ≡ full * 31 = rw q_is at n_is in
@@ -121,7 +125,8 @@ low_packed r g b v is = omega (arith, is)
 -- ---- the modes
 
 pub added_is : (back front b f s : ℕ) → b ≡ back % 2 ^ 15 → f ≡ front % 2 ^ 15
-    → s ≡ packed (min (red5_of b + red5_of f) 31) (min (green5_of b + green5_of f) 31) (min (blue5_of b + blue5_of f) 31)
+    → s ≡ packed (min (red5_of b + red5_of f) 31) (min (green5_of b + green5_of f) 31)
+    (min (blue5_of b + blue5_of f) 31)
     → s ≡ blended_of 1 back front
 added_is back front b f s b_is f_is is = omega (arith, b_is, f_is, is)
 
@@ -133,7 +138,8 @@ inverted_is : (a b c x y z : ℕ) → a + x ≡ 31 → b + y ≡ 31 → c + z �
 inverted_is a b c x y z red green blue = omega (arith, red, green, blue)
 
 pub subtracted_is : (back front b c f s : ℕ) → b ≡ back % 2 ^ 15 → c ≡ 32767 - b → f ≡ front % 2 ^ 15
-    → s ≡ packed (min (red5_of c + red5_of f) 31) (min (green5_of c + green5_of f) 31) (min (blue5_of c + blue5_of f) 31)
+    → s ≡ packed (min (red5_of c + red5_of f) 31) (min (green5_of c + green5_of f) 31)
+    (min (blue5_of c + blue5_of f) 31)
     → 32767 - s ≡ blended_of 2 back front
 subtracted_is back front b c f s b_is c_is f_is is =
     let red : red5_of c ≡ 31 - back % 32 = omega (arith, b_is, c_is) in
@@ -155,7 +161,8 @@ quarter_is a t lt is = omega (arith, lt, is)
 
 pub quarter_added_is : (back front b f q s : ℕ) → b ≡ back % 2 ^ 15 → f ≡ front % 2 ^ 15
     → q ≡ packed (red5_of f / 4) (green5_of f / 4) (blue5_of f / 4)
-    → s ≡ packed (min (red5_of b + red5_of q) 31) (min (green5_of b + green5_of q) 31) (min (blue5_of b + blue5_of q) 31)
+    → s ≡ packed (min (red5_of b + red5_of q) 31) (min (green5_of b + green5_of q) 31)
+    (min (blue5_of b + blue5_of q) 31)
     → s ≡ blended_of 3 back front
 quarter_added_is back front b f q s b_is f_is q_is is =
     let red : red5_of q ≡ front % 32 / 4 = omega (arith, f_is, q_is) in

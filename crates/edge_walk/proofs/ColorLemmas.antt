@@ -21,14 +21,16 @@ same_mixed a b c which p x y oriented_triangle inside e f g =
     let area = unsigned_abs (doubled_area (corners a b c)) in
     let whole : area ≡ weight b c x y + weight c a x y + weight a b x y = ap unsigned_abs (sym w.sum) in
     rw (e, f, g)
-    (same_over (weight b c x y) (weight c a x y) (weight a b x y) p area whole (omega (arith, ints, oriented_triangle.area)))
+    (same_over (weight b c x y) (weight c a x y) (weight a b x y) p area whole
+    (omega (arith, ints, oriented_triangle.area)))
 
 -- the colour of a cell of such a triangle
 pub same_color : (a b c : Vertex) (t : Corners) (color : ℕ) (x y : ℤ) → corners a b c ≡ oriented t
     → IsUpright (corners a b c) → IsTrue (is_within (corners a b c) x y)
     → color ≡ a.color % 2 ^ 24 → b.color % 2 ^ 24 ≡ color → c.color % 2 ^ 24 ≡ color → HasColor t x y color
 same_color a b c t color x y same oriented_triangle inside e f g = record {
-  red = ap (λ w. mixed_of w 0 x y) (sym same) ∙ same_mixed a b c 0 (color % 256) x y oriented_triangle inside (omega (arith, e))
+  red = ap (λ w. mixed_of w 0 x y) (sym same)
+      ∙ same_mixed a b c 0 (color % 256) x y oriented_triangle inside (omega (arith, e))
       (omega (arith, f)) (omega (arith, g));
   green = ap (λ w. mixed_of w 1 x y) (sym same) ∙ same_mixed a b c 1 (color / 256 % 256) x y oriented_triangle inside
       (omega (arith, e)) (omega (arith, f)) (omega (arith, g));

@@ -78,7 +78,8 @@ unfolding bounding_box
 within-in_box a b c x y oriented_triangle inside =
     let low = positive_edges a b c x y inside in
     let sum = sum_of_edges a b c x y in
-    let some : pos 0 <ℤ (edge b c x y +ℤ edge c a x y +ℤ edge a b x y) = omega (arith, ints, sum, oriented_triangle.area) in (
+    let some : pos 0 <ℤ (edge b c x y +ℤ edge c a x y +ℤ edge a b x y) =
+    omega (arith, ints, sum, oriented_triangle.area) in (
       between (edge b c x y) (edge c a x y) (edge a b x y) a.x b.x c.x x (record {
         one = low.1;
         two = low.2;

@@ -52,12 +52,14 @@ pub unscaled_is : (t : Corners) (a b c : Vertex) (area : ℕ) (across down : ℤ
 unscaled_is t a b c area across down same oriented_triangle us vs area_is across_is down_is rises stays = record {
   across = λ x y i here there.
       ap (λ w. mixed_of w 3 (x +ℤ pos i) y) (sym same)
-      ∙ one_more a b c 3 area x y across i oriented_triangle us area_is across_is rises (sym (inside_is t a b c same x y) ∙ here)
+      ∙ one_more a b c 3 area x y across i oriented_triangle us area_is across_is rises
+      (sym (inside_is t a b c same x y) ∙ here)
       (sym (inside_is t a b c same (x +ℤ pos i) y) ∙ there)
       ∙ ap (λ w. mixed_of w 3 x y + i) same;
   down = λ x y i here there.
       ap (λ w. mixed_of w 4 (x +ℤ pos i) y) (sym same)
-      ∙ the_same a b c 4 area x y down i oriented_triangle vs area_is down_is stays (sym (inside_is t a b c same x y) ∙ here)
+      ∙ the_same a b c 4 area x y down i oriented_triangle vs area_is down_is stays
+      (sym (inside_is t a b c same x y) ∙ here)
       (sym (inside_is t a b c same (x +ℤ pos i) y) ∙ there)
       ∙ ap (λ w. mixed_of w 4 x y) same;
 }

@@ -1,6 +1,8 @@
 -- Consecutive parts of the pixels of a picture.
-use Rattle.std.proofs.Common.{◌≡◌, ◌≤◌, ◌<◌, ◌+◌, ◌-◌, ◌*◌, ◌/◌, ◌%◌, ◌++◌, ◌∙◌, ℕ, zero, suc, List, refl, ap, sym, append_assoc, arith}
-use Rattle.std.proofs.Common.{length, take, drop, slice_set, slice_index_or, add-one, length-drop, Bool, true, false, if◌then◌else◌}
+use Rattle.std.proofs.Common.{◌≡◌, ◌≤◌, ◌<◌, ◌+◌, ◌-◌, ◌*◌, ◌/◌, ◌%◌, ◌++◌, ◌∙◌, ℕ, zero, suc, List, refl, ap, sym}
+use Rattle.std.proofs.Common.{append_assoc, arith}
+use Rattle.std.proofs.Common.{length, take, drop, slice_set, slice_index_or, add-one, length-drop, Bool, true, false}
+use Rattle.std.proofs.Common.{if◌then◌else◌}
 use Rattle.std.proofs.lemmas.Grind.{common_steps}
 use Rattle.std.proofs.lemmas.List.{append-nil, length-take-le}
 use Rattle.std.proofs.lemmas.Slice.{take-put_mid}
@@ -62,7 +64,8 @@ five_pieces a b c d e =
 -- a row of video memory wraps once
 pub wrapped_row : (m : List ℕ) (shown : DisplayArea) (row i : ℕ)
     → row_pixel m shown (row % height_of m) i ≡ row_pixel m shown row i
-wrapped_row m shown row i = let twice : row % height_of m % height_of m ≡ row % height_of m = mod-mod row (height_of m) in rw twice refl
+wrapped_row m shown row i = let twice : row % height_of m % height_of m ≡ row % height_of m =
+    mod-mod row (height_of m) in rw twice refl
 
 -- a pixel of the same row as the first one
 pub pixel_in_row : (m : List ℕ) (shown : DisplayArea) (first i : ℕ) → first % shown.width + i < shown.width

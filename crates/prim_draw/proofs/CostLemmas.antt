@@ -82,10 +82,12 @@ sum_small false a b c d f g = omega arith
 
 -- ---- rectangles
 
-all_small : (rectangle_setup : RectangleSetup) (e : Extent) (box : Option Box2) → all_cost rectangle_setup e box ≤ 4 * count_in box
+all_small : (rectangle_setup : RectangleSetup) (e : Extent) (box : Option Box2)
+    → all_cost rectangle_setup e box ≤ 4 * count_in box
 all_small rectangle_setup e None = omega arith
 all_small rectangle_setup e (Some b) =
-    rows_small (pattern_of rectangle_setup e) (clip_row (clip_rect_of b)) (clip_rect_of b).w (clip_rect_of b).y (clip_rect_of b).h
+    rows_small (pattern_of rectangle_setup e) (clip_row (clip_rect_of b)) (clip_rect_of b).w (clip_rect_of b).y
+    (clip_rect_of b).h
     (λ y. let long = row_length (clip_rect_of b).x y (clip_rect_of b).w in omega (arith, long))
 
 rectangle_small : (r : Registers) (rectangle_setup : RectangleSetup) (e : Extent)

@@ -44,7 +44,8 @@ cost_next area s k start now new p so_far at step =
     (λ (v : Vertex). cond (is_in area v) 2 0) at in
     rw (add-one k) (omega (arith, here, so_far, step))
 
-pub inked_next : (s : Ends) (point_color k : ℕ) (m now new : List ℕ) (p : Vertex) → now ≡ colored_points s point_color k m
+pub inked_next : (s : Ends) (point_color k : ℕ) (m now new : List ℕ) (p : Vertex)
+    → now ≡ colored_points s point_color k m
     → p ≡ point_of s k
     → new ≡ set now (cell_of p).x (cell_of p).y point_color → new ≡ colored_points s point_color (k + 1) m
 inked_next s point_color k m now new p so_far at put =
@@ -86,21 +87,27 @@ drawn_inked area brush p color point_color m inside same is = rw inside
 
 pub all_inked : (area : Box2) (brush : Brush) (s : Ends) (color point_color : ℕ) → color ≡ s.first.color % 2 ^ 24
     → s.first.color ≡ s.second.color
-    → is_in area s.first ≡ true → is_in area s.second ≡ true → IsPointColor brush color point_color → ArePointsColored area brush s point_color
+    → is_in area s.first ≡ true → is_in area s.second ≡ true → IsPointColor brush color point_color
+    → ArePointsColored area brush s point_color
 all_inked area brush s color point_color is same first second inks k lt =
     let inside = all_within area s (point_of s k) first second (point_of-between s k lt) in
     let shading : (point_of s k).color ≡ color =
     ap (λ c. color_along s.first.color c (steps_of s) k) (sym same) ∙ color-same s.first.color (steps_of s) k
     ∙ sym is in
-    record { inside = inside; drawn = λ m. drawn_inked area brush (point_of s k) color point_color m inside shading inks }
+    record {
+      inside = inside;
+      drawn = λ m. drawn_inked area brush (point_of s k) color point_color m inside shading inks;
+    }
 
 pub some_inked : (area : Box2) (brush : Brush) (s : Ends) (color : ℕ) (found : Option ℕ)
     → ((point_color : ℕ) → IsPointColor brush color point_color → ArePointsColored area brush s point_color)
-    → IfSome found (λ point_color. IsPointColor brush color point_color) → IfSome found (λ point_color. ArePointsColored area brush s point_color)
+    → IfSome found (λ point_color. IsPointColor brush color point_color)
+    → IfSome found (λ point_color. ArePointsColored area brush s point_color)
 some_inked area brush s color None all is = tt
 some_inked area brush s color (Some point_color) all is = all point_color is
 
-pub inked_are : (area : Box2) (brush : Brush) (s : Ends) (point_color n : ℕ) (m : List ℕ) → ArePointsColored area brush s point_color
+pub inked_are : (area : Box2) (brush : Brush) (s : Ends) (point_color n : ℕ) (m : List ℕ)
+    → ArePointsColored area brush s point_color
     → n ≤ len_of s
     → colored_points s point_color n m ≡ drawn_points area brush s n m
 inked_are area brush s point_color n m inked le =
@@ -108,7 +115,8 @@ inked_are area brush s point_color n m inked le =
     (λ k. drawn_point area brush (point_of s k)) n m
     (λ k cells lt. sym ((inked k (omega (arith, lt, le))).drawn cells))
 
-pub inked_cost : (area : Box2) (brush : Brush) (s : Ends) (point_color n : ℕ) → ArePointsColored area brush s point_color → n ≤ len_of s
+pub inked_cost : (area : Box2) (brush : Brush) (s : Ends) (point_color n : ℕ)
+    → ArePointsColored area brush s point_color → n ≤ len_of s
     → n ≤ points_cost area s n
 inked_cost area brush s point_color zero inked le = omega arith
 inked_cost area brush s point_color (suc n) inked le =

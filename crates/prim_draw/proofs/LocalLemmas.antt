@@ -16,7 +16,8 @@ use Rattle.prim_draw.specs.Boxes.{clip_rect_of, cells_of}
 use Rattle.prim_draw.specs.Draw.{drawn_packet}
 use Rattle.prim_draw.specs.Lines.{drawn_ends, drawn_point, drawn_points, is_in, cell_of as cell_at, placed_ends}
 use Rattle.prim_draw.specs.Parts.{polygon, polygon_style, rectangle_style}
-use Rattle.prim_draw.specs.Rectangles.{extent_at, drawn_all, drawn_rectangle, rectangle_box, rectangle_setup_in, rectangle_paint}
+use Rattle.prim_draw.specs.Rectangles.{extent_at, drawn_all, drawn_rectangle, rectangle_box, rectangle_setup_in}
+use Rattle.prim_draw.specs.Rectangles.{rectangle_paint}
 use Rattle.prim_draw.specs.Rectangles.{pattern_of}
 use Rattle.span_lanes.specs.Pattern.{uniform, pixel_at}
 use Rattle.gp1_status.specs.Drawing.{drawing_area}
@@ -49,7 +50,8 @@ toned_local (TexturedRow color texture u v flip) brush bare = absurd bare
 
 -- ---- triangles
 
-inside_same : (state : DrawState) (t : Corners) (b : Option Box2) (k : ℕ) (m now : List ℕ) → IsUntexturedPaint state.paint
+inside_same : (state : DrawState) (t : Corners) (b : Option Box2) (k : ℕ) (m now : List ℕ)
+    → IsUntexturedPaint state.paint
     → SameAt k m now → SameAt k (drawn_inside state t b m) (drawn_inside state t b now)
 inside_same state t None k m now bare same = same
 inside_same state t (Some b) k m now bare same = cells_same (pixel_at (uniform state)) state.brush.mask k
@@ -88,18 +90,22 @@ polygon_same r style p k m now e same = by_test p.four
 
 -- ---- rectangles
 
-tile_local : (rectangle_setup : RectangleSetup) (e : Extent) → rectangle_setup.texture ≡ None → IsLocal (pixel_at (pattern_of rectangle_setup e))
+tile_local : (rectangle_setup : RectangleSetup) (e : Extent) → rectangle_setup.texture ≡ None
+    → IsLocal (pixel_at (pattern_of rectangle_setup e))
 unfolding rectangle_paint
 tile_local rectangle_setup e none = λ cell m now same. rw none (rw same refl)
 
-all_same : (rectangle_setup : RectangleSetup) (e : Extent) (b : Option Box2) (k : ℕ) (m now : List ℕ) → rectangle_setup.texture ≡ None
+all_same : (rectangle_setup : RectangleSetup) (e : Extent) (b : Option Box2) (k : ℕ) (m now : List ℕ)
+    → rectangle_setup.texture ≡ None
     → SameAt k m now → SameAt k (drawn_all rectangle_setup e b m) (drawn_all rectangle_setup e b now)
 all_same rectangle_setup e None k m now none same = same
-all_same rectangle_setup e (Some b) k m now none same = cells_same (pixel_at (pattern_of rectangle_setup e)) rectangle_setup.brush.mask k (tile_local
+all_same rectangle_setup e (Some b) k m now none same =
+    cells_same (pixel_at (pattern_of rectangle_setup e)) rectangle_setup.brush.mask k (tile_local
     rectangle_setup e none)
     (cells_of (clip_rect_of b)) m now same
 
-rectangle_same : (r : Registers) (rectangle_setup : RectangleSetup) (e : Extent) (k : ℕ) (m now : List ℕ) → rectangle_setup.texture ≡ None
+rectangle_same : (r : Registers) (rectangle_setup : RectangleSetup) (e : Extent) (k : ℕ) (m now : List ℕ)
+    → rectangle_setup.texture ≡ None
     → SameAt k m now
     → SameAt k (drawn_rectangle r rectangle_setup e m) (drawn_rectangle r rectangle_setup e now)
 unfolding drawn_rectangle
@@ -153,7 +159,8 @@ drawing_is_local r (packet.Poly four a b c d shaded false semi raw clut page) k 
 drawing_is_local r (packet.Segment a b semi) k m now bare same = ends_same r semi (placed_ends r a b) k m now same
 drawing_is_local r (packet.Rect x y w h color true semi raw u v clut) k m now bare same = absurd bare
 drawing_is_local r (packet.Rect x y w h color false semi raw u v clut) k m now bare same =
-    rectangle_same r (rectangle_setup_in r (rectangle_style color false semi raw clut) u v) (extent_at r x y w h) k m now
+    rectangle_same r (rectangle_setup_in r (rectangle_style color false semi raw clut) u v)
+    (extent_at r x y w h) k m now
     (untextured_tile r color semi raw u v clut) same
 drawing_is_local r (packet.Fill color x y w h) k m now bare same = same
 drawing_is_local r (packet.Copy from to w h) k m now bare same = same

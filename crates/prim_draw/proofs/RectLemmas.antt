@@ -27,11 +27,13 @@ unfolding row_u
 row_u-more u true a i le = omega arith
 row_u-more u false a i le = omega arith
 
-along : (rectangle_setup : RectangleSetup) (texture : Option Texture) (brush : Brush) (a row i x y : ℕ) (m : List ℕ) → a + i ≤ 1023
+along : (rectangle_setup : RectangleSetup) (texture : Option Texture) (brush : Brush) (a row i x y : ℕ) (m : List ℕ)
+    → a + i ≤ 1023
     → paint_pixel (paint_from rectangle_setup texture a row) brush x y i m
     ≡ paint_pixel (paint_from rectangle_setup texture (a + i) row) brush x y 0 m
 along rectangle_setup None brush a row i x y m le = refl
-along rectangle_setup (Some texture) brush a row i x y m le = rw (row_u-more rectangle_setup.u rectangle_setup.flip_x a i le) refl
+along rectangle_setup (Some texture) brush a row i x y m le =
+    rw (row_u-more rectangle_setup.u rectangle_setup.flip_x a i le) refl
 
 texture_is : (rectangle_setup : RectangleSetup) (texture : Option Texture) (column row : ℕ)
     → texture_of (paint_from rectangle_setup texture column row) ≡ texture
@@ -52,7 +54,8 @@ row_further v false rows j le = omega arith
 
 -- without a texture the pattern is one colour
 pub flat_pattern : (rectangle : ClippedRectangle) → rectangle.rectangle_setup.now.texture ≡ None
-    → rectangle_pattern rectangle ≡ uniform (record { paint = Flat rectangle.rectangle_setup.now.color; brush = rectangle.rectangle_setup.now.brush })
+    → rectangle_pattern rectangle
+    ≡ uniform (record { paint = Flat rectangle.rectangle_setup.now.color; brush = rectangle.rectangle_setup.now.brush })
 unfolding rectangle_paint
 flat_pattern rectangle none = rw none refl
 
@@ -74,7 +77,10 @@ module _ (rectangle : ClippedRectangle) (y : ℕ) (run : Run) (whole : IsWholeRo
           texture = rw texture can.rectangle_setup.texture;
           inside = free setup setup.texture column row run.x y run.n;
         };
-        lies = record { row = omega (arith, whole.bottom, can.clip_rect.bottom); page = rw texture can.rectangle_setup.page };
+        lies = record {
+          row = omega (arith, whole.bottom, can.clip_rect.bottom);
+          page = rw texture can.rectangle_setup.page;
+        };
       }
 
   -- what draws it by the same span has its pixels
@@ -100,7 +106,8 @@ module _ (rectangle : ClippedRectangle) (y : ℕ) (run : Run) (whole : IsWholeRo
 
   -- its texels are those of the rectangle
   row_at : (t : Texture) → IsPartOf rectangle.extent.now rectangle.clip_rect.now → texel_row (texels_of rectangle t) y
-      ≡ row_u rectangle.rectangle_setup.now.v rectangle.rectangle_setup.now.flip_y (unsigned_abs (pos y -ℤ rectangle.extent.now.top))
+      ≡ row_u rectangle.rectangle_setup.now.v rectangle.rectangle_setup.now.flip_y
+      (unsigned_abs (pos y -ℤ rectangle.extent.now.top))
   row_at t part =
       let b = rectangle.clip_rect.now in
       let top = rectangle.extent.now.top in

@@ -40,7 +40,8 @@ module _ (t : Corners) (clip : Box2) (rows : TriangleRows) (are : AreRowsIn t cl
   tri_can_draw state y run m can gives =
       let box = box_is clip can.small in
       let is : IsRun t y run = subst (λ (k : Corners). IsRun k y run) are.tri gives.0 in
-      let lies : LiesInClip (clip_rect_of clip) y run = subst (λ (b : ClipRect). LiesInClip b y run) are.clip_rect gives.1 in
+      let lies : LiesInClip (clip_rect_of clip) y run =
+      subst (λ (b : ClipRect). LiesInClip b y run) are.clip_rect gives.1 in
       record {
         span = record {
           some = is.some;
@@ -73,5 +74,6 @@ module _ (t : Corners) (clip : Box2) (rows : TriangleRows) (are : AreRowsIn t cl
   tri_drawn p before after drawn =
       subst (λ (b : ClipRect). DrawsRows (record { pattern = p; row = row_inside t b; top = b.y }) b.h before after)
       are.clip_rect
-      (subst (λ (k : Corners). DrawsRows (record { pattern = p; row = row_inside k rows.clip_rect; top = rows.clip_rect.y })
+      (subst (λ (k : Corners). DrawsRows
+      (record { pattern = p; row = row_inside k rows.clip_rect; top = rows.clip_rect.y })
       rows.clip_rect.h before after) are.tri drawn)

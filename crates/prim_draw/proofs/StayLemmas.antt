@@ -22,7 +22,8 @@ use Rattle.prim_draw.specs.Draw.{drawn_packet}
 use Rattle.prim_draw.specs.Lines.{drawn_ends, drawn_point, drawn_points, ends_box, is_in, cell_of, placed_ends}
 use Rattle.prim_draw.specs.Lines.{segment_box}
 use Rattle.prim_draw.specs.Parts.{polygon, polygon_style, rectangle_style}
-use Rattle.prim_draw.specs.Rectangles.{cells_box, extent_at, drawn_all, drawn_rectangle, rectangle_box, rectangle_setup_in}
+use Rattle.prim_draw.specs.Rectangles.{cells_box, extent_at, drawn_all, drawn_rectangle, rectangle_box}
+use Rattle.prim_draw.specs.Rectangles.{rectangle_setup_in}
 use Rattle.prim_draw.specs.Rectangles.{pattern_of}
 use Rattle.span_lanes.specs.Pattern.{uniform, pixel_at}
 use Rattle.gp1_status.specs.Drawing.{drawing_area}
@@ -203,7 +204,8 @@ polygon_stays r style p m = by_test p.four
 all_stays : (rectangle_setup : RectangleSetup) (e : Extent) (b : Option Box2) (m : List ℕ) → IfSome b IsSeen
     → AgreeOutside b m (drawn_all rectangle_setup e b m)
 all_stays rectangle_setup e None m seen = but_same _ m
-all_stays rectangle_setup e (Some b) m seen = cells_but (Has b) (pixel_at (pattern_of rectangle_setup e)) rectangle_setup.brush.mask _ m
+all_stays rectangle_setup e (Some b) m seen =
+    cells_but (Has b) (pixel_at (pattern_of rectangle_setup e)) rectangle_setup.brush.mask _ m
     (each_in_box b seen)
 
 rectangle_stays : (r : Registers) (rectangle_setup : RectangleSetup) (e : Extent) (m : List ℕ)

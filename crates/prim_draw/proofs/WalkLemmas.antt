@@ -21,7 +21,8 @@ pub record IsBoxOf (clip : Box2) (x y w h : ℕ) : Type 0 where
   pub rows : 1 ≤ h
   pub in_row : x + w ≤ 1024
 
-pub box_is : (clip : Box2) → IsOnScreen 1024 clip → IsBoxOf clip (clip_rect_of clip).x (clip_rect_of clip).y (clip_rect_of clip).w
+pub box_is : (clip : Box2) → IsOnScreen 1024 clip
+    → IsBoxOf clip (clip_rect_of clip).x (clip_rect_of clip).y (clip_rect_of clip).w
     (clip_rect_of clip).h
 unfolding clip_rect_of
 box_is clip h = record {

@@ -30,9 +30,11 @@ texels_of rectangle texture =
     record {
       color = rectangle_setup.color;
       texture = texture;
-      u = row_u rectangle_setup.u rectangle_setup.flip_x (unsigned_abs (pos rectangle.clip_rect.now.x -ℤ rectangle.extent.now.left));
+      u = row_u rectangle_setup.u rectangle_setup.flip_x
+          (unsigned_abs (pos rectangle.clip_rect.now.x -ℤ rectangle.extent.now.left));
       flip = rectangle_setup.flip_x;
-      v = row_u rectangle_setup.v rectangle_setup.flip_y (unsigned_abs (pos rectangle.clip_rect.now.y -ℤ rectangle.extent.now.top));
+      v = row_u rectangle_setup.v rectangle_setup.flip_y
+          (unsigned_abs (pos rectangle.clip_rect.now.y -ℤ rectangle.extent.now.top));
       falls = rectangle_setup.flip_y;
       brush = rectangle_setup.brush;
       clip_rect = rectangle.clip_rect.now;
@@ -47,5 +49,9 @@ pub record AreTexelsOf (rectangle : ClippedRectangle) (rows : TexelRows) : Type 
 
 abbrev pub DrawsRectangle : ClippedRectangle → (before after : Stage) → Type 0
 DrawsRectangle rectangle before after =
-    DrawsRows (record { pattern = rectangle_pattern rectangle; row = clip_row rectangle.clip_rect.now; top = rectangle.clip_rect.now.y })
+    DrawsRows (record {
+      pattern = rectangle_pattern rectangle;
+      row = clip_row rectangle.clip_rect.now;
+      top = rectangle.clip_rect.now.y;
+    })
     rectangle.clip_rect.now.h before after

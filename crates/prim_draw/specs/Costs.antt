@@ -35,7 +35,8 @@ cost_down p row top (suc count) = cost_down p row top count + side_by_side p (ro
 
 abbrev pub inside_cost : DrawState → Corners → Option Box2 → ℕ
 inside_cost state t None = 0
-inside_cost state t (Some b) = cost_down (uniform state) (row_inside t (clip_rect_of b)) (clip_rect_of b).y (clip_rect_of b).h
+inside_cost state t (Some b) =
+    cost_down (uniform state) (row_inside t (clip_rect_of b)) (clip_rect_of b).y (clip_rect_of b).h
 
 unfoldable pub triangle_cost : Registers → Style → Corners → ℕ
 triangle_cost r style t = inside_cost (triangle_state r style t) t (triangle_box r t)
@@ -48,7 +49,8 @@ polygon_cost r style p =
 
 abbrev pub all_cost : RectangleSetup → Extent → Option Box2 → ℕ
 all_cost rectangle_setup e None = 0
-all_cost rectangle_setup e (Some b) = cost_down (pattern_of rectangle_setup e) (clip_row (clip_rect_of b)) (clip_rect_of b).y (clip_rect_of b).h
+all_cost rectangle_setup e (Some b) =
+    cost_down (pattern_of rectangle_setup e) (clip_row (clip_rect_of b)) (clip_rect_of b).y (clip_rect_of b).h
 
 unfoldable pub rectangle_cost : Registers → RectangleSetup → Extent → ℕ
 rectangle_cost r rectangle_setup e = all_cost rectangle_setup e (rectangle_box r e)

@@ -11,7 +11,8 @@ use Rattle.prim_draw.specs.Lines.{cell_of, drawn_point, is_in, plotted}
 
 -- a colour is plotted as this halfword in every cell
 abbrev pub IsPointColor : Brush → (color point_color : ℕ) → Type 0
-IsPointColor brush color point_color = (cell : Cell) → (m : List ℕ) → plotted brush cell color m ≡ set m cell.x cell.y point_color
+IsPointColor brush color point_color = (cell : Cell) → (m : List ℕ)
+    → plotted brush cell color m ≡ set m cell.x cell.y point_color
 
 -- a point is in the drawing area, and is drawn as this halfword
 pub record IsInked (area : Box2) (brush : Brush) (p : Vertex) (point_color : ℕ) : Type 0 where

@@ -63,7 +63,8 @@ rectangle_setup_in r style u v = record {
 abbrev pub paint_from : RectangleSetup → Option Texture → ℕ → ℕ → Paint
 paint_from rectangle_setup None column row = Flat rectangle_setup.color
 paint_from rectangle_setup (Some texture) column row =
-    TexturedRow rectangle_setup.color texture (row_u rectangle_setup.u rectangle_setup.flip_x column) (row_u rectangle_setup.v rectangle_setup.flip_y row) rectangle_setup.flip_x
+    TexturedRow rectangle_setup.color texture (row_u rectangle_setup.u rectangle_setup.flip_x column)
+    (row_u rectangle_setup.v rectangle_setup.flip_y row) rectangle_setup.flip_x
 
 unfoldable pub rectangle_paint : RectangleSetup → ℕ → ℕ → Paint
 rectangle_paint rectangle_setup column row = paint_from rectangle_setup rectangle_setup.texture column row
@@ -77,7 +78,11 @@ row_of e cell = unsigned_abs (pos cell.y -ℤ e.top)
 
 -- the pattern of its cells
 abbrev pub pattern_of : RectangleSetup → Extent → Pattern
-pattern_of rectangle_setup e = record { paint = λ cell. rectangle_paint rectangle_setup (column_of e cell) (row_of e cell); brush = rectangle_setup.brush }
+pattern_of rectangle_setup e =
+    record {
+      paint = λ cell. rectangle_paint rectangle_setup (column_of e cell) (row_of e cell);
+      brush = rectangle_setup.brush;
+    }
 
 -- a clip rectangle within the 1023 columns and 1023 rows from the rectangle's first cell on
 pub record IsPartOf (e : Extent) (b : ClipRect) : Type 0 where

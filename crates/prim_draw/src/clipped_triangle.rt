@@ -4,7 +4,8 @@ ghost use Rattle.vram_store.specs.Vram.{height_of};
 ghost use Rattle.span_lanes.specs.Shade.{texture_of};
 ghost use Rattle.span_lanes.specs.ClipRect.{IsClipHazardFree};
 ghost use Rattle.texel_lanes.specs.Texture.{IsTexture};
-ghost use Rattle.prim_draw.specs.ClippedTriangle.{CanDrawClipped, CanDrawRows, DrawsClipped, IsClippedTriangle, state_of};
+ghost use Rattle.prim_draw.specs.ClippedTriangle.{CanDrawClipped, CanDrawRows, DrawsClipped, IsClippedTriangle};
+ghost use Rattle.prim_draw.specs.ClippedTriangle.{state_of};
 ghost use Rattle.prim_draw.specs.Boxes.{IsOnScreen, clip_rect_of};
 ghost use Rattle.prim_draw.specs.Walks.{DrawsTriangle};
 

@@ -14,7 +14,8 @@ use Rattle.texel_lanes.specs.declared.texture.Texture.{Texture}
 use Rattle.span_lanes.specs.declared.span.Span.{Span}
 use Rattle.texel_lanes.specs.Texture.{IsTexture, clut_row}
 use Rattle.span_lanes.specs.Shade.{IsSpan, texture_of}
-use Rattle.span_lanes.specs.Guard.{paint_texel, paint_texels, target, clut_strip, page_width, IsHazardFree, LiesOutsidePage}
+use Rattle.span_lanes.specs.Guard.{paint_texel, paint_texels, target, clut_strip, page_width, IsHazardFree}
+use Rattle.span_lanes.specs.Guard.{LiesOutsidePage}
 
 -- a coordinate after the window is within the page
 pub windowed_small : (mask off v : ℕ) → mask ≤ 31 → windowed mask off v < 256

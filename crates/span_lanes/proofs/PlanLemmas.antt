@@ -19,7 +19,8 @@ use Rattle.span_lanes.specs.Paints.{paint_u, paint_v, chunk_u, chunk_v}
 use Rattle.span_lanes.proofs.CostLemmas.{free_cost}
 
 -- the coordinates of a chunk, from those of its span
-pub coordinates_here : (paint : Paint) (x y n first k : ℕ) (coords : TexCoords) (us vs : List ℕ) → AreTexCoords paint x y n coords
+pub coordinates_here : (paint : Paint) (x y n first k : ℕ) (coords : TexCoords) (us vs : List ℕ)
+    → AreTexCoords paint x y n coords
     → first + k ≤ n → k ≤ 16
     → AreCoordinates us → AreCoordinates vs
     → ((j : ℕ) → j < 16 → get_or us j 0 ≡ coord_at coords.u first j)
@@ -55,7 +56,8 @@ apart_free span t first k hazard_free within of_paint =
     (λ h. hazard_free.free first k within (rw of_paint h)))
 
 -- the cost of a chunk of a span without a hazard
-pub apart_cost : (span : Span) (t : Texture) (first k : ℕ) → IsHazardFree span → first + k ≤ span.n → texture_of span.paint
+pub apart_cost : (span : Span) (t : Texture) (first k : ℕ) → IsHazardFree span → first + k ≤ span.n
+    → texture_of span.paint
     ≡ Some t
     → chunk_cost span first k ≡ 2 + texel_steps t.page.depth * k
 apart_cost span t first k hazard_free within of_paint = free_cost span t first k of_paint

@@ -23,7 +23,8 @@ pub as_it_is : (h : ℕ) → h < 2 ^ 16 → h ≡ packed_pixel h (is_high h) fal
 as_it_is h few = grind (arith, nat_tests)
 
 -- raw texels are not modulated
-pub raw_front : (raw : Bool) (color : ℕ) (shift : ℤ) (t h : ℕ) → IsTrue raw → h ≡ modulated_texel raw color shift t → h ≡ t
+pub raw_front : (raw : Bool) (color : ℕ) (shift : ℤ) (t h : ℕ) → IsTrue raw → h ≡ modulated_texel raw color shift t
+    → h ≡ t
 unfolding modulated_texel
 raw_front true color shift t h is front = front
 raw_front false color shift t h is front = absurd (cc is)

@@ -12,11 +12,13 @@ use Rattle.span_lanes.specs.Shade.{attribute_in, color_in}
 -- the colour of cell `at + j`
 abbrev pub color_at_cell : RowColors → ℕ → ℕ → ℕ
 color_at_cell (One color) at j = color
-color_at_cell (Lines red green blue) at j = line_value red at j + 256 * line_value green at j + 65536 * line_value blue at j
+color_at_cell (Lines red green blue) at j =
+    line_value red at j + 256 * line_value green at j + 65536 * line_value blue at j
 
 -- the colours of n cells are those of a paint from (x, y) on
 abbrev pub AreRowColors : Paint → ℕ → ℕ → ℕ → RowColors → Type 0
-AreRowColors paint x y n row_colors = (at j : ℕ) → j < 16 → at + j < n → color_at_cell row_colors at j ≡ paint_color paint (x + (at + j)) y
+AreRowColors paint x y n row_colors = (at j : ℕ) → j < 16 → at + j < n
+    → color_at_cell row_colors at j ≡ paint_color paint (x + (at + j)) y
 
 -- the value of a line is a triangle's attribute at its cells inside, from (x, y) on
 abbrev pub IsLineOf : Corners → (which x y : ℕ) → RowLine → Type 0

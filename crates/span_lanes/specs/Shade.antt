@@ -82,7 +82,8 @@ is_high t = bit t 15 == 1
 
 -- a texel modulated by a colour, or unchanged if raw
 unfoldable pub modulated_texel : Bool → ℕ → ℤ → ℕ → ℕ
-modulated_texel raw color shift t = if raw then t else modulated_of t (red_of color) (green_of color) (blue_of color) shift
+modulated_texel raw color shift t =
+    if raw then t else modulated_of t (red_of color) (green_of color) (blue_of color) shift
 
 -- the pixel of a texel: none for 0000h; bit 15 decides whether the texel may be semi-transparent, and is kept
 unfoldable pub textured_pixel : Brush → Bool → ℕ → ℤ → ℕ → ℕ → Option ℕ

@@ -6,7 +6,8 @@ use Rattle.texel_lanes.specs.Texture.{IsTexture}
 use Rattle.texel_lanes.specs.declared.texture.Texture.{Texture}
 use Rattle.span_lanes.specs.declared.clip_rect.ClipRect.{ClipRect}
 use Rattle.span_lanes.specs.declared.row_methods.RowMethod.{RowMethod}
-use Rattle.span_lanes.specs.declared.row_methods.RowMethod.TheVariants.{CachedClut, Contiguous, FlatTexelsByCoords, GouraudTexels}
+use Rattle.span_lanes.specs.declared.row_methods.RowMethod.TheVariants.{CachedClut, Contiguous, FlatTexelsByCoords}
+use Rattle.span_lanes.specs.declared.row_methods.RowMethod.TheVariants.{GouraudTexels}
 use Rattle.span_lanes.specs.declared.attribute_ramps.AttributeRamps.{AttributeRamps}
 use Rattle.span_lanes.specs.declared.attribute_ramps.CoordRamps.{CoordRamps}
 use Rattle.span_lanes.specs.declared.triangle_setup.TriangleSetup.{TriangleSetup}

@@ -78,7 +78,8 @@ fn draw_by_raw<L: Ledger>(
     requires { CanUseCached span.now cached.now.texture (IsTexelRun span.now cached.now.texture cached.now.sampler)
         cached.now.colored_clut.now vram.old }
     ensures drawn { DrawsSpan span.now 1 (at_stage vram.old steps.old) (at_stage vram.new steps.new) }
-    ensures cached { CanUseCached span.now cached.now.texture (IsTexelRun span.now cached.now.texture cached.now.sampler)
+    ensures cached { CanUseCached span.now cached.now.texture
+        (IsTexelRun span.now cached.now.texture cached.now.sampler)
         cached.now.colored_clut.now vram.new }
 {
     if cached.texture.raw {

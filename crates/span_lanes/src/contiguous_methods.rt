@@ -29,7 +29,8 @@ impl TexelMethod for CachedClutMethod {
 
     ghost accepts = { λ tri t brush color. IsRowMethod tri t brush (CachedClut color) };
 
-    ghost ready = { λ method state m. IsCachedClutMethod state method.setup method.color × IsCached state.paint m method.last };
+    ghost ready = { λ method state m. IsCachedClutMethod state method.setup method.color
+        × IsCached state.paint m method.last };
 
     #[inline(always)]
     fn new(tri: &Tri, texture: &Texture, brush: &Brush, color: u32) -> CachedClutMethod {

@@ -28,7 +28,8 @@ impl TexelMethod for FlatTexelsMethod {
 
     ghost accepts = { λ tri t brush color. IsShadingOf tri (OneColor color) };
 
-    ghost ready = { λ method state m. IsFlatTexelsMethod state method.texture method.color method.coord_ramps × IsCached state.paint m method.last };
+    ghost ready = { λ method state m. IsFlatTexelsMethod state method.texture method.color method.coord_ramps
+        × IsCached state.paint m method.last };
 
     #[inline(always)]
     fn new(tri: &Tri, texture: &Texture, _brush: &Brush, color: u32) -> FlatTexelsMethod {

@@ -1,8 +1,8 @@
 // The choice of the loop that draws a span.
 //
 // A loop over chunks is compiled separately (`draw_chunks` with one type of `ChunkDrawer`) if what is known of a span
-// saves work in each chunk. This is the list of these loops. "Opaque" pixels are neither blended nor tested, and their
-// bit 15 is not forced. In brackets: a workload of the benchmark that runs the loop.
+// saves work in each chunk. These are the loops. "Opaque" pixels are neither blended nor tested, and their bit 15 is not
+// forced. In brackets: a workload of the benchmark.
 //
 // - `Solid`, in `draw_ready` and `draw_solid`: all cells become one halfword, and nothing is read. [triangle flat]
 // - `Untextured`, in `draw_flat`: one colour that is blended, tested or dithered. [rectangle B+F]
@@ -11,17 +11,14 @@
 //   the loop over the rows. [triangle 4-bit modulated]
 // - `CachedClut<&CoordRamps>` and `Shaded<&CoordRamps>`, in `draw_flat_texels`: texels by coordinates under one colour,
 //   without a hazard. No workload runs them.
-// - `GouraudTexels`, in `draw_gouraud_texels`: the same under several colours. [triangle turned, gouraud, dithered,
-//   half]
-// - `CachedClut<TexelRun>`, four in `draw_cached_run`: a cached palette for other spans, raw or not, opaque or not. Raw
-//   texels need two table look-ups, modulated ones four.
+// - `GouraudTexels`, in `draw_gouraud_texels`: the same under several colours. [triangle turned, gouraud, dithered]
+// - `CachedClut<TexelRun>`, four in `draw_cached_run`: a cached palette for other spans, raw or not, opaque or not.
 // - `Raw<FourBitRun>`, `Raw<EightBitRun>`, `Raw<FifteenBitRun>`, each opaque or not, in `draw_raw`: contiguous raw
 //   texels. [triangle 15-bit raw]
 // - `Shaded` of the same three, each opaque or not, in `draw_shaded`: contiguous modulated texels. [rectangle 8-bit
 //   modulated]
 // - `CachedClut<&TexCoords>` and `RowSetup`, by the coordinates of each texel: in `draw_row_by_coords` [rectangle that
-//   is flipped], and in `draw_tri`, if spans in the triangle's clip rectangle may have a hazard. No workload runs the
-//   second.
+//   is flipped], and in `draw_tri`, if spans in the triangle's clip rectangle may have a hazard.
 //
 // Rectangles that cache their palette for all rows have four more loops of `CachedClut<TexelRun>`, in
 // `CachedClutRows::draw_row`. [rectangle, sprite 4-bit]

@@ -65,7 +65,8 @@ pub(crate) fn draw_gouraud_texels<L: Ledger>(
     ramps: &AttributeRamps,
     steps: &mut Steps<L>,
 )
-    requires take { CanTakeTexels span.now texture.now (AreCoordRampsOf span.now.paint ramps.now.coord_planes) vram.old }
+    requires take { CanTakeTexels span.now texture.now
+        (AreCoordRampsOf span.now.paint ramps.now.coord_planes) vram.old }
     requires ramps { AreAttributeRampsOf span.now.paint ramps.now }
     ensures { DrawsSpan span.now 0 (at_stage vram.old steps.old) (at_stage vram.new steps.new) }
 {

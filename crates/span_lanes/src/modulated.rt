@@ -39,8 +39,8 @@ pub(crate) fn modulated_texels<H: ColorSource>(
 ) -> u16x16
     requires span { IsSpan chunk.now.span.now }
     requires row_colors { H.suits row_colors.now chunk.now.span.now }
-    requires dither_lanes { AreDitherLanesAt (chunk.now.span.now.brush.dither && not texture.now.raw) chunk.now.span.now.x
-        chunk.now.span.now.y dither_lanes.lanes }
+    requires dither_lanes { AreDitherLanesAt (chunk.now.span.now.brush.dither && not texture.now.raw)
+        chunk.now.span.now.x chunk.now.span.now.y dither_lanes.lanes }
     requires chunk { IsChunk chunk.now }
     requires long { length texels ≡ 16 }
     ensures long { length result ≡ 16 }

@@ -57,7 +57,8 @@ impl RowDrawer for SpanDrawer {
 
     ghost reaches = { λ drawer y run. Unit {0} };
 
-    ghost fresh = { λ drawer m. IsPaintSetup (state_of drawer.span) drawer.ready × IsCached drawer.span.paint m drawer.last };
+    ghost fresh = { λ drawer m. IsPaintSetup (state_of drawer.span) drawer.ready
+        × IsCached drawer.span.paint m drawer.last };
 
     #[inline(always)]
     fn draw<L: Ledger>(&mut self, vram: &mut Vram, run: Run, y: u16, steps: &mut Steps<L>) {

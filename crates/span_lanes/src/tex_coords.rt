@@ -40,9 +40,11 @@ pub(crate) struct TexCoords {
 #[inline(always)]
 pub(crate) fn triangle_tex_coords(coord_planes: &CoordPlanes, x: u16, y: u16) -> TexCoords
     ensures u { (tri : Corners)
-        → AreCoordPlanes tri coord_planes.now → IsTrue (is_inside tri (pos x) (pos y)) → IsCoordAlong tri 3 x y result.u }
+        → AreCoordPlanes tri coord_planes.now → IsTrue (is_inside tri (pos x) (pos y))
+        → IsCoordAlong tri 3 x y result.u }
     ensures v { (tri : Corners)
-        → AreCoordPlanes tri coord_planes.now → IsTrue (is_inside tri (pos x) (pos y)) → IsCoordAlong tri 4 x y result.v }
+        → AreCoordPlanes tri coord_planes.now → IsTrue (is_inside tri (pos x) (pos y))
+        → IsCoordAlong tri 4 x y result.v }
 {
     TexCoords {
         u: CoordAlongRow::Line {

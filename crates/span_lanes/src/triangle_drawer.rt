@@ -83,7 +83,8 @@ impl<M: TexelMethod> RowDrawer for TriangleDrawer<M> {
 
     ghost reaches = { λ drawer. LiesInClip drawer.clip };
 
-    ghost fresh = { λ drawer m. IsFreeIn drawer.span.paint drawer.clip × M.ready drawer.method (state_of drawer.span) m };
+    ghost fresh = { λ drawer m. IsFreeIn drawer.span.paint drawer.clip
+        × M.ready drawer.method (state_of drawer.span) m };
 
     #[inline(always)]
     fn draw<L: Ledger>(&mut self, vram: &mut Vram, run: Run, y: u16, steps: &mut Steps<L>) {

@@ -13,7 +13,8 @@ use Rattle.vram_store.proofs.Ones.{ones}
 abbrev pub first_half : List ℕ → List ℕ
 first_half lanes = pick_l 0 (lanes ++ lanes) (range_with_len 0 8)
 
-pub half_lane : (lanes : List ℕ) → length lanes ≡ 16 → (j : ℕ) → j < 8 → get_or (first_half lanes) j 0 ≡ get_or lanes j 0
+pub half_lane : (lanes : List ℕ) → length lanes ≡ 16 → (j : ℕ) → j < 8
+    → get_or (first_half lanes) j 0 ≡ get_or lanes j 0
 half_lane lanes long j lt =
     let same : first_half lanes ≡ chunk 0 8 lanes =
     pick_l_left 0 lanes lanes 16 (range_with_len 0 8) long tt

@@ -26,7 +26,8 @@ raw_pattern e1 x w =
     pattern_of (rectangle_setup_in r (rectangle_style 0 true false true 0) 0 0) (extent_at r (pos x) (pos 0) w 1)
 
 pub returns-clause-smeared : goal.returns-clause-smeared
-unfolding draw_cost rectangle_cost rectangle_box extent_at rectangle_setup_in rectangle_paint texture_in brush_in drawing_area some_box
+unfolding draw_cost rectangle_cost rectangle_box extent_at rectangle_setup_in rectangle_paint texture_in brush_in
+    drawing_area some_box
     overlap clip_rect_of span_cost has_hazard paint_texels row_u windowed has_texel_hazard has_strip_hazard
 returns-clause-smeared c =
     let p = raw_pattern 0x100 1 4 in
@@ -36,7 +37,8 @@ returns-clause-smeared c =
     omega (arith, row, span, span_of_row p 1 0 4 (omega arith))
 
 pub returns-clause-own_palette : goal.returns-clause-own_palette
-unfolding draw_cost rectangle_cost rectangle_box extent_at rectangle_setup_in rectangle_paint texture_in brush_in drawing_area some_box
+unfolding draw_cost rectangle_cost rectangle_box extent_at rectangle_setup_in rectangle_paint texture_in brush_in
+    drawing_area some_box
     overlap clip_rect_of span_cost has_hazard paint_texels row_u windowed has_texel_hazard has_strip_hazard
 returns-clause-own_palette c =
     let p = raw_pattern 1 0 3 in
@@ -46,7 +48,8 @@ returns-clause-own_palette c =
     omega (arith, row, span, span_of_row p 0 0 3 (omega arith))
 
 pub returns-clause-far : goal.returns-clause-far
-unfolding draw_cost rectangle_cost rectangle_box extent_at rectangle_setup_in rectangle_paint texture_in brush_in drawing_area some_box
+unfolding draw_cost rectangle_cost rectangle_box extent_at rectangle_setup_in rectangle_paint texture_in brush_in
+    drawing_area some_box
     overlap clip_rect_of span_cost has_hazard paint_texels row_u windowed has_texel_hazard has_strip_hazard
 returns-clause-far c =
     let p = raw_pattern 0x110 0 32 in
@@ -57,14 +60,16 @@ returns-clause-far c =
 
 pub returns-clause-half : goal.returns-clause-half
 unfolding draw_cost polygon_cost triangle_cost triangle_box triangle_state triangle_paint placed brush_in drawing_area
-    some_box overlap clip_rect_of bounding_box is_drawn edge oriented is_on_side is_within row_cells span_cost has_hazard
+    some_box overlap clip_rect_of bounding_box is_drawn edge oriented is_on_side is_within row_cells span_cost
+    has_hazard
 returns-clause-half c =
     let e : draw_cost (open_registers 0) (white_half false false) ≡ 16 = refl in
     omega (arith, e)
 
 pub returns-clause-square : goal.returns-clause-square
 unfolding draw_cost polygon_cost triangle_cost triangle_box triangle_state triangle_paint placed brush_in drawing_area
-    some_box overlap clip_rect_of bounding_box is_drawn edge oriented is_on_side is_within row_cells span_cost has_hazard
+    some_box overlap clip_rect_of bounding_box is_drawn edge oriented is_on_side is_within row_cells span_cost
+    has_hazard
 returns-clause-square c =
     let e : draw_cost (open_registers 0) (white_half true true) ≡ 30 = refl in
     omega (arith, e)

@@ -10,7 +10,8 @@ returns-then-lies_in c =
     let last : c.second.result.color ≡ s.second.color = ap (λ (v : Vertex). v.color) c.second.ensures in
     some_inked c.args.area.now c.args.brush.now s (c.first-color.result.color % 2 ^ 24) c.point_color_of.result
     (λ point_color inks.
-    all_inked c.args.area.now c.args.brush.now s (c.first-color.result.color % 2 ^ 24) point_color (ap (λ n. n % 2 ^ 24) color)
+    all_inked c.args.area.now c.args.brush.now s (c.first-color.result.color % 2 ^ 24) point_color
+    (ap (λ n. n % 2 ^ 24) color)
     (sym color ∙ c.if-color-second.false ∙ last) (c.lies_in.ensures.first c.if-lies_in.true)
     (c.lies_in.ensures.second c.if-lies_in.true) inks)
     c.point_color_of.ensures

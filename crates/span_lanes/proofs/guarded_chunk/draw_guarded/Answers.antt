@@ -16,7 +16,8 @@ draw_shaded-requires-clause-texels g c =
 
 pub returns-then-has_hazard : goal.returns-then-has_hazard
 returns-then-has_hazard g c =
-    let cost = hazard_cost c.args.chunk.now.span.now c.args.row_setup.now.texture c.args.chunk.now.first c.args.chunk.now.k
+    let cost = hazard_cost c.args.chunk.now.span.now c.args.row_setup.now.texture c.args.chunk.now.first
+    c.args.chunk.now.k
     c.requires.row_setup.texture
     (sym c.has_hazard.ensures.value ∙ c.if-has_hazard.true) in
     let spent = rw c.requires.row_setup.texture at c.draw_cells.ensures.cost in
@@ -28,7 +29,8 @@ returns-then-has_hazard g c =
 
 pub returns-else-has_hazard : goal.returns-else-has_hazard
 returns-else-has_hazard g c =
-    let cost = free_cost c.args.chunk.now.span.now c.args.row_setup.now.texture c.args.chunk.now.first c.args.chunk.now.k
+    let cost = free_cost c.args.chunk.now.span.now c.args.row_setup.now.texture c.args.chunk.now.first
+    c.args.chunk.now.k
     c.requires.row_setup.texture
     (sym c.has_hazard.ensures.value ∙ c.if-has_hazard.false) in
     record {

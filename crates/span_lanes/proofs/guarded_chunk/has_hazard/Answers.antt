@@ -29,6 +29,8 @@ returns-else-not-row_setup-clause-free c none hazard =
 
 pub returns-else-not-row_setup-clause-value : goal.returns-else-not-row_setup-clause-value
 returns-else-not-row_setup-clause-value c =
-    rw c.if-not-row_setup.false (sym (apart_free c.args.chunk.now.span.now c.args.row_setup.now.texture c.args.chunk.now.first
+    rw c.if-not-row_setup.false
+    (sym (apart_free c.args.chunk.now.span.now c.args.row_setup.now.texture c.args.chunk.now.first
     c.args.chunk.now.k
-    (c.requires.row_setup.hazard_free (cc c.if-not-row_setup.false)) c.requires.chunk.within c.requires.row_setup.texture))
+    (c.requires.row_setup.hazard_free (cc c.if-not-row_setup.false)) c.requires.chunk.within
+    c.requires.row_setup.texture))

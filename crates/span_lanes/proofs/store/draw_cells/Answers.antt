@@ -15,7 +15,8 @@ loop-j-preserved g c = record {
       let start : ℕ = 1024 * span.y + span.x in
       let place : ℕ = 1024 * span.y + (span.x + c.args.chunk.now.first) in
       c.draw_cell.ensures.cells
-      ∙ lane_later (shade span) span.brush.mask start c.args.chunk.now.first place c.loop-j.j c.loop-j.vram (omega arith)
+      ∙ lane_later (shade span) span.brush.mask start c.args.chunk.now.first place c.loop-j.j c.loop-j.vram
+      (omega arith)
       ∙ ap (draw_lane (later (shade span) c.args.chunk.now.first) span.brush.mask place c.loop-j.j)
       c.loop-j.invariant.cells
       ∙ sym (drawn_more (later (shade span) c.args.chunk.now.first) span.brush.mask place c.loop-j.j c.args.vram.now);

@@ -6,7 +6,8 @@ pub returns-clause-cells : goal.returns-clause-cells
 returns-clause-cells g c =
     let chunk = c.args.chunk.now in
     chunk_law _ _ _ _ _ _
-    (span_blind c.args.chunk.now.span.now chunk.first chunk.k c.args.vram.now c.requires.can.span c.requires.chunk.within
+    (span_blind c.args.chunk.now.span.now chunk.first chunk.k c.args.vram.now c.requires.can.span
+    c.requires.chunk.within
     c.requires.free)
     c.requires.lanes c.store16.ensures.cells
 

@@ -7,7 +7,8 @@ use Rattle.edge_walk.proofs.oriented.Oriented.weights_at.Goals as goal
 use Rattle.edge_walk.proofs.oriented.Oriented.weights_at.Goals.{Start}
 
 edges : (c : Start) → AreEdges c.args.self.now.a c.args.self.now.b c.args.self.now.c c.args.x c.args.y
-edges c = edges_of c.args.self.now.a c.args.self.now.b c.args.self.now.c c.args.x c.args.y c.args.self.now.oriented_triangle.small
+edges c = edges_of c.args.self.now.a c.args.self.now.b c.args.self.now.c c.args.x c.args.y
+    c.args.self.now.oriented_triangle.small
     c.requires
 
 pub weight-requires-clause-low : goal.weight-requires-clause-low

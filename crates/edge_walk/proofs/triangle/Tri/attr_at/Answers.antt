@@ -16,11 +16,13 @@ weights_at-weights-requires c =
 
 pub mixed-requires-clause-divisor : goal.mixed-requires-clause-divisor
 mixed-requires-clause-divisor c =
-    (area_held _ _ _ _ _ c.area_divisor.ensures c.oriented_triangle-t.ensures.same c.oriented_triangle-t.result.oriented_triangle).divisor
+    (area_held _ _ _ _ _ c.area_divisor.ensures c.oriented_triangle-t.ensures.same
+    c.oriented_triangle-t.result.oriented_triangle).divisor
 
 pub mixed-requires-clause-area : goal.mixed-requires-clause-area
 mixed-requires-clause-area c =
-    let area = area_held _ _ _ _ _ c.area_divisor.ensures c.oriented_triangle-t.ensures.same c.oriented_triangle-t.result.oriented_triangle in
+    let area = area_held _ _ _ _ _ c.area_divisor.ensures c.oriented_triangle-t.ensures.same
+    c.oriented_triangle-t.result.oriented_triangle in
     omega (arith, ints, area.is, c.weights_at-weights.ensures.sum)
 
 pub returns-clause-value : goal.returns-clause-value

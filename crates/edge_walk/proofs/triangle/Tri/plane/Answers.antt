@@ -11,17 +11,21 @@ use Rattle.edge_walk.proofs.triangle.Tri.plane.Goals as goal
 use Rattle.edge_walk.proofs.triangle.Tri.plane.Goals.{After-oriented_triangle-t, After-of}
 
 area : (c : After-oriented_triangle-t)
-    → IsAreaOf c.args.divisor.now (corners c.oriented_triangle-t.result.a c.oriented_triangle-t.result.b c.oriented_triangle-t.result.c)
-area c = area_held _ _ _ _ _ c.requires.divisor c.oriented_triangle-t.ensures.same c.oriented_triangle-t.result.oriented_triangle
+    → IsAreaOf c.args.divisor.now
+    (corners c.oriented_triangle-t.result.a c.oriented_triangle-t.result.b c.oriented_triangle-t.result.c)
+area c = area_held _ _ _ _ _ c.requires.divisor c.oriented_triangle-t.ensures.same
+    c.oriented_triangle-t.result.oriented_triangle
 
 pub of-requires-clause-divisor : goal.of-requires-clause-divisor
 of-requires-clause-divisor c = (area (goal.at.of-requires-clause-divisor c).After-oriented_triangle-t).divisor
 
 module _ (c : After-of) (x y : ℤ) (inside : IsTrue (is_inside c.args.self.now x y)) where
-  here : IsTrue (is_within (corners c.oriented_triangle-t.result.a c.oriented_triangle-t.result.b c.oriented_triangle-t.result.c) x y)
+  here : IsTrue (is_within
+      (corners c.oriented_triangle-t.result.a c.oriented_triangle-t.result.b c.oriented_triangle-t.result.c) x y)
   here = sym (inside_is c.args.self.now _ _ _ c.oriented_triangle-t.ensures.same x y) ∙ inside
 
-  both : PlaneAt c.oriented_triangle-t.result.a c.oriented_triangle-t.result.b c.oriented_triangle-t.result.c c.args.which c.of.result x y
+  both : PlaneAt c.oriented_triangle-t.result.a c.oriented_triangle-t.result.b c.oriented_triangle-t.result.c
+      c.args.which c.of.result x y
   unfolding bounding_box
   both =
       let t = c.oriented_triangle-t.result in

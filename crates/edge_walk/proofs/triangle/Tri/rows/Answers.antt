@@ -13,11 +13,13 @@ small c = subst (λ w. IsSmall w) c.oriented_triangle.ensures.same c.oriented_tr
 
 turn : (c : After-bounds-own) → IsTurn (oriented c.args.self.now)
     (corners c.rotated_to_top-t.result.a c.rotated_to_top-t.result.b c.rotated_to_top-t.result.c)
-turn c = subst (λ w. IsTurn w (corners c.rotated_to_top-t.result.a c.rotated_to_top-t.result.b c.rotated_to_top-t.result.c))
+turn c = subst (λ w. IsTurn w
+    (corners c.rotated_to_top-t.result.a c.rotated_to_top-t.result.b c.rotated_to_top-t.result.c))
     c.oriented_triangle.ensures.same c.rotated_to_top-t.ensures.turn
 
 near : (c : After-bounds-own)
-    → AreReached (corners c.rotated_to_top-t.result.a c.rotated_to_top-t.result.b c.rotated_to_top-t.result.c) c.args.clip.now.y1
+    → AreReached (corners c.rotated_to_top-t.result.a c.rotated_to_top-t.result.b c.rotated_to_top-t.result.c)
+    c.args.clip.now.y1
 near c =
     let clip = c.args.clip.now in
     reached_around _ _ clip.y1 (turn c) (reached c.args.self.now clip clip.y1 (small c) c.requires (omega (arith, ints))

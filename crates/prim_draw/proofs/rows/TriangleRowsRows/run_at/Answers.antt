@@ -25,7 +25,8 @@ span : (c : goal.In-Some)
 unfolding clip_rect
 span c = let is = is_row c in row_span _ _ _ _ is _ _ (c.in-Some.ensures.span _ _ _ is.stands is.in_box)
 
-box : (c : goal.In-Some) → IsBoxOf c.args.self.now.clip.now (clip_rect c).x (clip_rect c).y (clip_rect c).w (clip_rect c).h
+box : (c : goal.In-Some)
+    → IsBoxOf c.args.self.now.clip.now (clip_rect c).x (clip_rect c).y (clip_rect c).w (clip_rect c).h
 unfolding clip_rect
 box c = box_is c.args.self.now.clip.now c.requires.stands.on_screen
 

@@ -22,5 +22,7 @@ returns-clause-drawn g c =
 pub returns-clause-serves : goal.returns-clause-serves
 returns-clause-serves g c =
     let is = c.requires.serves.0 in
-    let long = c.draw_shaded.ensures.others.count in
-    (record { sample = sample_stays is.sample long; hazard_free = is.hazard_free; finds = is.finds }, c.requires.serves.1)
+    let long = c.draw_shaded.ensures.others.count in (
+      record { sample = sample_stays is.sample long; hazard_free = is.hazard_free; finds = is.finds },
+      c.requires.serves.1,
+    )
