@@ -2,8 +2,8 @@
 ghost use Rattle.std.specs.Prelude.{◌≡◌, ◌≤◌, ℕ, List, Option, Ok, map, IfOk, IfErr, IsOk, OnErr, OnOk};
 ghost use Rattle.dev_io.specs.Device.{Rose};
 ghost use Rattle.gpu_capture.specs.Reader.{IsReadFault};
-ghost use Rattle.event_play.specs.Replay.{Replay, from_state, raised};
-ghost use Rattle.event_play.specs.RigState.{Stands, StandsFor};
+ghost use Rattle.event_play.specs.Replay.{from_state};
+ghost use Rattle.event_play.specs.RigState.{Stands};
 ghost use Rattle.event_play.specs.Step.{Machine};
 ghost use Rattle.event_play.specs.Streams.{streams, without_sink};
 ghost use Rattle.capture_cut.specs.Came.{PlaysFirst, PlaysAnswer, EndsAnswer, EndsEarly, IsIdle, IsReadFailure};
@@ -17,9 +17,6 @@ use gpu_capture::{Event, EventReader, Stop};
 use gpu_taps::Listener;
 use std::sync::ledger::Ledger;
 use vram_store::Steps;
-
-/// Captures of this version are played in the tall profile (1024 rows of video memory).
-const TALL_VERSION: u8 = 3;
 
 /// Plays the first `n` events of a capture, at least one, on a rig that has played none. Returns the reader after the
 /// last of them. On a fault or an earlier stop, returns how the cut ends.
@@ -47,7 +44,7 @@ pub(crate) fn play_first<S: Source, T: Listener, L: Ledger>(
 {
     let mut reader = EventReader::new();
     let first = reader.next(source);
-    raise(rig, reader.version());
+    rig.raise(reader.version());
     play_answer(rig, first, taps, steps)?;
     'events: for k in 1..n {
         let _ = k;
@@ -55,15 +52,6 @@ pub(crate) fn play_first<S: Source, T: Listener, L: Ledger>(
         play_answer(rig, next, taps, steps)?;
     }
     Ok(reader)
-}
-
-// Changes to the tall profile if captures of `version` are played in it.
-fn raise(rig: &mut Rig, version: u8)
-    ensures { (t : Replay) → StandsFor rig.old t → StandsFor rig.new (raised t version) }
-{
-    if version == TALL_VERSION {
-        rig.set_tall();
-    }
 }
 
 // Plays the event that the reader returned. If it has a fault or the reader stopped, plays nothing and returns how the

@@ -17,10 +17,7 @@ use crate::record::{allowed, put_bytes, record_size};
 use dev_io::{Sink, Source};
 use event_play::write_at_pause;
 use gathered_out::OutputBuffer;
-use gpu_capture::{Event, EventReader, Stop, write_end};
-
-/// The maximum length of the file in bytes.
-const LIMIT: u32 = 1 << 30;
+use gpu_capture::{Event, EventReader, LIMIT, Stop, write_end};
 
 /// Reads the events after the first `read`, and writes their records and an End record. `size`: length of the file so
 /// far in bytes, at most 2^30 - 4. The reader must not have stopped.
