@@ -2,8 +2,8 @@
 ghost use Rattle.std.specs.Prelude.{◌≡◌, ◌≤◌, ℕ, List, Option, Ok, map, IfOk, IfErr, IsOk, OnErr, OnOk};
 ghost use Rattle.dev_io.specs.Device.{Rose};
 ghost use Rattle.gpu_capture.specs.Reader.{IsReadFault};
-ghost use Rattle.event_play.specs.Replay.{from_state};
-ghost use Rattle.event_play.specs.RigState.{Stands};
+ghost use Rattle.event_play.specs.Replay.{Replay, from_state};
+ghost use Rattle.event_play.specs.RigState.{Stands, StandsFor};
 ghost use Rattle.event_play.specs.Step.{Machine};
 ghost use Rattle.event_play.specs.Streams.{streams, without_sink};
 ghost use Rattle.capture_cut.specs.Came.{PlaysFirst, PlaysAnswer, EndsAnswer, EndsEarly, IsIdle, IsReadFailure};
