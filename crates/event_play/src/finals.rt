@@ -63,8 +63,8 @@ pub(crate) fn lacks_picture(gpu: &Gpu, mode: Mode) -> bool
     }
 }
 
-/// Writes the final output of `within.mode`. `within.number` is the number of events played plus 1; only `Sums` prints
-/// it. `lacks_picture` must be false.
+/// Writes the final output of `event_in_mode.mode`. `event_in_mode.number` is the number of events played plus 1; only
+/// `Sums` prints it. `lacks_picture` must be false.
 #[tactic(auto, unfolding(crate::specs::Out::final_bytes, crate::specs::Out::final_cost))]
 pub(crate) fn write_finals<K: Sink, T: Listener, L: Ledger>(
     gpu: &Gpu,

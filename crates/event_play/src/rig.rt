@@ -128,9 +128,9 @@ impl Rig {
         validate(event, &mut self.walk, &self.ram, self.running)
     }
 
-    /// Performs an operation in event `within.number`, and adds the lines of its items that the mode asks for. Returns
-    /// the shown word, if any. If a line cannot be written, feeds no further word, and returns the number of the first
-    /// event whose lines are incomplete. `operation` must be in its bounds, as the operation of an event is.
+    /// Performs an operation in its event, and adds the lines of its items that the mode asks for. Returns the shown
+    /// word, if any. If a line cannot be written, feeds no further word, and returns the number of the first event whose
+    /// lines are incomplete. `operation` must be in its bounds, as the operation of an event is.
     pub(crate) fn perform<O: Outlet, T: Listener, L: Ledger>(
         &mut self,
         operation: InEvent<Operation>,

@@ -12,17 +12,19 @@ returns-in-List-clause-feeds g c =
     rw c.in-List.is (record {
       ok = λ s e.
           on_ok_weaker c.put_listed.result
-          (λ put. word_feeds _ s c.args.word.within.number c.args.word.value c.gp0-note.result _ _ _ (fed.feed s e)
+          (λ put. word_feeds _ s c.args.word.event_in_mode.number c.args.word.value c.gp0-note.result _ _ _
+          (fed.feed s e)
           (fed.note s e) fed.taps (fed.cost s e))
           c.put_listed.ensures.puts.puts.ok;
       failed = λ s e.
           on_err_weaker c.put_listed.result
-          (λ part. word_stops _ s c.args.word.within.number c.args.word.value c.gp0-note.result _ _ _ (fed.feed s e)
+          (λ part. word_stops _ s c.args.word.event_in_mode.number c.args.word.value c.gp0-note.result _ _ _
+          (fed.feed s e)
           (fed.note s e) fed.taps (fed.cost s e))
           c.put_listed.ensures.puts.cause;
       puts = λ s e.
-          puts_as c.args.word.within.number _ _ _ _ c.put_listed.result
-          (line_pieces s c.args.word.within.number c.args.word.value c.gp0-note.result (fed.note s e))
+          puts_as c.args.word.event_in_mode.number _ _ _ _ c.put_listed.result
+          (line_pieces s c.args.word.event_in_mode.number c.args.word.value c.gp0-note.result (fed.note s e))
           c.put_listed.ensures.puts;
       kept = inl tt;
       buffers = on_err_weaker c.put_listed.result (λ part. tt) c.put_listed.ensures.puts.cause;
@@ -33,7 +35,8 @@ returns-in-List-clause-feeds g c =
 pub returns-in_default-clause-feeds : goal.returns-in_default-clause-feeds
 returns-in_default-clause-feeds g c =
     let fed = c.gp0.ensures in
-    let not : IsBuffered c.args.word.within.mode → ⊥ = search rules in
-    quiet_feeds c.args.word.within.mode c.args.word.within.number c.args.word.value c.gp0.result _ _ _ _ not refl refl
+    let not : IsBuffered c.args.word.event_in_mode.mode → ⊥ = search rules in
+    quiet_feeds c.args.word.event_in_mode.mode c.args.word.event_in_mode.number c.args.word.value c.gp0.result _ _ _ _
+    not refl refl
     refl fed.feed
     fed.note fed.taps fed.cost
