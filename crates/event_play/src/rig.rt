@@ -129,8 +129,8 @@ impl Rig {
     }
 
     /// Performs an operation in its event, and adds the lines of its items that the mode asks for. Returns the shown
-    /// word, if any. If a line cannot be written, feeds no further word, and returns the number of the first event whose
-    /// lines are incomplete. `operation` must be in its bounds, as the operation of an event is.
+    /// word, if any. If a line cannot be written, feeds no further word, and returns the number of the first event
+    /// whose lines are incomplete. `operation` must be in its bounds, as the operation of an event is.
     pub(crate) fn perform<O: Outlet, T: Listener, L: Ledger>(
         &mut self,
         operation: InEvent<Operation>,
