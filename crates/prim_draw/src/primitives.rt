@@ -19,8 +19,7 @@ use std::sync::ledger::Ledger;
 use vram_store::{Steps, Vram};
 
 // Draws a polygon, a quad as two triangles, and returns its area.
-#[tactic(auto, unfolding(crate::specs::Triangles::drawn_polygon, crate::specs::Costs::polygon_cost,
-    crate::specs::Areas::polygon_area))]
+#[tactic(auto, unfolding(crate::specs::Triangles::drawn_polygon, crate::specs::Costs::polygon_cost, crate::specs::Areas::polygon_area))]
 #[inline(always)]
 fn draw_polygon<L: Ledger>(
     vram: &mut Vram,
@@ -56,8 +55,7 @@ fn draw_polygon<L: Ledger>(
 /// Video memory and registers must have the same height, and the packet's fields must be in the ranges that
 /// `gp0_packets::decode` returns.
 #[inline(always)]
-#[tactic(auto, unfolding(crate::specs::Draw::drawn_packet, crate::specs::Costs::draw_cost,
-    crate::specs::Areas::area_of))]
+#[tactic(auto, unfolding(crate::specs::Draw::drawn_packet, crate::specs::Costs::draw_cost, crate::specs::Areas::area_of))]
 pub fn draw<L: Ledger>(
     vram: &mut Vram,
     regs: &Regs,

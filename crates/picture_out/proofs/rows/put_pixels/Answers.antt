@@ -12,7 +12,7 @@ loop-i-preserved g c =
     let is : c.pixel-pixel.result ≡ numbered_pixel c.args.vram.now c.args.shown (c.args.first + c.loop-i.i) =
     rw (pixel_in_row c.args.vram.now c.args.shown c.args.first c.loop-i.i lt) seen in
     let long : length c.pixel-pixel.result ≡ 3 =
-        rw c.pixel-pixel.ensures.bytes (pixel_long c.args.vram.now c.args.shown _ _) in
+    rw c.pixel-pixel.ensures.bytes (pixel_long c.args.vram.now c.args.shown _ _) in
     let le : 3 * c.loop-i.i + 3 ≤ length c.loop-i.bytes =
     omega (arith, c.loop-i.invariant.count, c.loop-i-test.true, c.loop-i.auto.i-end) in
     record {
