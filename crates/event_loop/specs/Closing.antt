@@ -31,8 +31,8 @@ abbrev pub ended_by : {R : Type 0} → Halt R → Ended R
 ended_by (Lacks number) = WriteFailed number
 ended_by (Refuses why) = Refused why
 
--- The output at a stop, how the stop may be refused, the state of the passage before it and after its output, the number
--- of the next event, and the stop.
+-- The output at a stop, how the stop may be refused, the state of the passage before it and after its output, the
+-- number of the next event, and the stop.
 pub record Closing (R : Type 0) : Type 1 where
   pub due : List Piece
   pub refuses : R → Type 0

@@ -7,8 +7,8 @@ use Rattle.gathered_out.specs.Puts.{Holding, IsWritten}
 abbrev pub most_after : ℕ
 most_after = 4112
 
--- `offset` is the byte offset of the reader, `since` that of the last flush. Either the output stays buffered, and fewer
--- than 4,096 bytes were read since. Or all is written, and `at` is the new offset.
+-- `offset` is the byte offset of the reader, `since` that of the last flush. Either the output stays buffered, and
+-- fewer than 4,096 bytes were read since. Or all is written, and `at` is the new offset.
 abbrev pub Pauses : (offset since : ℕ) → (before now : Holding) → (at : ℕ) → Type 0
 Pauses offset since before now at =
     ((at ≡ since) × (offset < since + 4096) × (now.buffered ≡ before.buffered) × (now.held ≡ before.held))

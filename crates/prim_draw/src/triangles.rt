@@ -132,8 +132,8 @@ pub(crate) fn draw_triangle<L: Ledger>(
     }
 }
 
-/// Returns the box of a triangle in the drawing area. `None` if the box has no cell, the size rule refuses the triangle,
-/// or its area is 0.
+/// Returns the box of a triangle in the drawing area. `None` if the box has no cell, the size rule refuses the
+/// triangle, or its area is 0.
 #[tactic(auto, unfolding(crate::specs::Triangles::triangle_box))]
 pub(crate) fn triangle_box(regs: &Regs, corners: &Corners) -> Option<Box2>
     ensures value { result ≡ triangle_box regs.now corners.now }

@@ -27,8 +27,8 @@ pub record CanDrawTexels (rows : TexelRows) (y v : ℕ) (m : List ℕ) : Type 0 
   pub can : CanDraw (texel_span rows y v) m
   pub in_block : IsInClip rows.clip_rect rows.clip_rect.x y rows.clip_rect.w
 
--- the CLUT of sixteen entries can be coloured once for all rows: their texels are contiguous, in cells that do not wrap,
--- and the clip rectangle has none of these
+-- the CLUT of sixteen entries can be modulated once for all rows: their texels are contiguous, in cells that do not
+-- wrap, and the clip rectangle has none of these
 pub record CanCacheRows (rows : TexelRows) : Type 0 where
   pub rises : rows.flip ≡ false
   pub clear : rows.texture.window.mask_x ≡ 0

@@ -1,14 +1,14 @@
 // The choice of the loop that draws a span.
 //
 // A loop over chunks is compiled separately (`draw_chunks` with one type of `ChunkDrawer`) if what is known of a span
-// saves work in each chunk. These are the loops. "Opaque" pixels are neither blended nor tested, and their bit 15 is not
-// forced. In brackets: a workload of the benchmark.
+// saves work in each chunk. These are the loops. "Opaque" pixels are neither blended nor tested, and their bit 15 is
+// not forced. In brackets: a workload of the benchmark.
 //
 // - `Solid`, in `draw_ready` and `draw_solid`: all cells become one halfword, and nothing is read. [triangle flat]
 // - `Untextured`, in `draw_flat`: one colour that is blended, tested or dithered. [rectangle B+F]
 // - `Untextured`, two in `draw_gouraud`: three channels that change along the row, opaque or not. [triangle gouraud]
-// - `CachedClut<TexelRun>`, in `CachedClutMethod::draw_row`: a cached palette and opaque pixels. The loop is inlined into
-//   the loop over the rows. [triangle 4-bit modulated]
+// - `CachedClut<TexelRun>`, in `CachedClutMethod::draw_row`: a cached palette and opaque pixels. The loop is inlined
+//   into the loop over the rows. [triangle 4-bit modulated]
 // - `CachedClut<&CoordRamps>` and `Shaded<&CoordRamps>`, in `draw_flat_texels`: texels by coordinates under one colour,
 //   without a hazard. No workload runs them.
 // - `GouraudTexels`, in `draw_gouraud_texels`: the same under several colours. [triangle turned, gouraud, dithered]

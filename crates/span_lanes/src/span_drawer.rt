@@ -76,8 +76,8 @@ impl RowDrawer for SpanDrawer {
 /// values.
 ///
 /// The span is cut from its left into chunks of sixteen cells and a last one. A chunk of k cells takes at most
-/// `2 + d * k` steps if no cell reads what an earlier one of the chunk writes, otherwise `(d + 2) * k`. d is 0 without a
-/// texture, 2 if the texture has a CLUT, otherwise 1.
+/// `2 + d * k` steps if no cell reads what an earlier one of the chunk writes, otherwise `(d + 2) * k`. d is 0 without
+/// a texture, 2 if the texture has a CLUT, otherwise 1.
 ///
 /// Requires:
 /// - the span's row and all rows of its texture page are in video memory;
