@@ -1,4 +1,4 @@
-// A module for each crate that is tested, and what several of them use.
+// A module for each crate that is tested, and modules that they use.
 mod blend_dither_test;
 mod capture_cut_test;
 mod capture_flat_test;
@@ -6,6 +6,7 @@ mod capture_slim_test;
 mod captures;
 mod dev_io_test;
 mod edge_walk_test;
+mod event_loop_test;
 mod gathered_out_test;
 mod gp0_packets_test;
 mod gp0_words_test;
@@ -21,6 +22,7 @@ mod packet_text_test;
 mod picture_out_test;
 mod prim_draw_test;
 mod px_num_test;
+mod record_copy;
 mod span_lanes_test;
 mod texel_lanes_test;
 mod texture_page_test;
