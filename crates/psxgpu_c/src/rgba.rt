@@ -53,8 +53,5 @@ fn put_pixel(bytes: &[u8], out: &mut [u8])
     requires room { length out.old ≡ 4 }
     ensures { out.new ≡ bytes.now ++ 255 ∷ [] }
 {
-    out[0] = bytes[0];
-    out[1] = bytes[1];
-    out[2] = bytes[2];
-    out[3] = 255;
+    out.copy_from_slice(&[bytes[0], bytes[1], bytes[2], 255]);
 }
