@@ -4,10 +4,11 @@
 # make plugin builds the recorder and a GPU plugin for emulators over that library, in recorder/out/.
 # make install puts program, tools, manual pages, documents and, where it is built, the library below PREFIX (/usr/local);
 # make uninstall removes them. Both may have a DESTDIR before it; PYTHON is the Python that finds the package psxgpu.
-# make dist makes the packages, make deb those for Debian. make CPU=x86-64-v3 builds the program for newer processors alone.
+# make dist makes the packages, make deb those for Debian. make CPU=x86-64-v3 builds the program for newer processors
+# alone, and make lib-v3 the shared library for them, which the loader of glibc takes by itself where it is installed.
 # make ARCH=aarch64 GOAL does the same for Linux on arm64, where GOAL is run, lib, install, uninstall, dist or deb.
 # make macos, make windows and make wasi build for these systems (systems/systems.mk); make dist-all makes all packages.
-.PHONY: run test bench lib plugin web viewer install install-library uninstall dist deb dist-all
+.PHONY: run test bench lib lib-v3 plugin web viewer install install-library uninstall dist deb dist-all
 
 VERSION := $(shell cat VERSION 2> /dev/null)
 EXAMPLE = examples/two-fills.capture
@@ -17,6 +18,7 @@ PLAY = $(PLAYER)
 PROVED = crates/psxgpu_c/out/libpsxgpu_c.a
 ARCHIVE = $(PROVED)
 OUT = out
+NEWER = $(OUT)/glibc-hwcaps/x86-64-v3
 SONAME = libpsxgpu.so.$(firstword $(subst ., ,$(VERSION)))
 SOURCES := $(shell find crates -name out -prune -o \( -name '*.rt' -o -name '*.antt' \) -print)
 
@@ -39,7 +41,8 @@ run: $(PLAYER)
 
 $(BUILT)/psxgpu_tool: $(SOURCES)
 	@python3 packaging/build_progress.py $(JOBS)
-	cd crates/psxgpu_tool && rt run -- play < stdin > /dev/null
+	cd crates/psxgpu_tool && \
+	  rt run --jobs $$(python3 ../../packaging/build_plan.py psxgpu_tool $(JOBS)) -- play < stdin > /dev/null
 
 # The program for one processor. The proofs are those of the usual build, and its program stays.
 $(BUILT)/%/psxgpu_tool: $(BUILT)/psxgpu_tool
@@ -57,9 +60,11 @@ bench: $(PLAYER)
 
 lib: $(OUT)/libpsxgpu.a $(OUT)/$(SONAME)
 
+lib-v3: $(NEWER)/$(SONAME)
+
 $(PROVED): $(SOURCES)
 	@python3 packaging/build_progress.py --top psxgpu_c $(JOBS)
-	cd crates/psxgpu_c && rt lib
+	cd crates/psxgpu_c && rt lib --jobs $$(python3 ../../packaging/build_plan.py psxgpu_c $(JOBS))
 
 $(OUT)/%.o: c/%.c c/psxgpu.h
 	mkdir -p $(OUT)
@@ -69,10 +74,26 @@ $(OUT)/libpsxgpu.a: $(ARCHIVE) $(OUT)/heap.o $(OUT)/text.o
 	cp $(ARCHIVE) $@
 	$(AR) r $@ $(OUT)/heap.o $(OUT)/text.o
 
-$(OUT)/$(SONAME): $(OUT)/libpsxgpu.a c/psxgpu.map
+define link_shared
 	$(CC) $(CFLAGS) $(LDFLAGS) -shared -Wl,-soname,$(SONAME) -Wl,--version-script=c/psxgpu.map -Wl,-z,defs \
-	  -Wl,--whole-archive $(OUT)/libpsxgpu.a -Wl,--no-whole-archive -o $@
+	  -Wl,--whole-archive $(1) -Wl,--no-whole-archive -o $@
+endef
+
+$(OUT)/$(SONAME): $(OUT)/libpsxgpu.a c/psxgpu.map
+	$(call link_shared,$(OUT)/libpsxgpu.a)
 	ln -sf $(SONAME) $(OUT)/libpsxgpu.so
+
+# The archive for newer processors. The proofs are those of the usual build, and its archive stays.
+$(NEWER)/libpsxgpu.a: $(OUT)/libpsxgpu.a
+	mkdir -p $(@D)
+	cd crates/psxgpu_c && cp -p out/libpsxgpu_c.a out/usual.a && \
+	  trap 'mv -f out/usual.a out/libpsxgpu_c.a' EXIT && trap 'exit 1' INT TERM && \
+	  rt lib --cpu=x86-64-v3 && cp out/libpsxgpu_c.a $(abspath $@.part)
+	$(AR) r $@.part $(OUT)/heap.o $(OUT)/text.o
+	mv $@.part $@
+
+$(NEWER)/$(SONAME): $(NEWER)/libpsxgpu.a c/psxgpu.map
+	$(call link_shared,$<)
 
 plugin: out/libpsxgpu.a
 	recorder/build
@@ -106,12 +127,13 @@ install-library:
 	install -m 644 $(OUT)/libpsxgpu.a $(LIB)/libpsxgpu.a
 	install -m 755 $(OUT)/$(SONAME) $(LIB)/$(SONAME)
 	ln -sf $(SONAME) $(LIB)/libpsxgpu.so
+	[ ! -f $(NEWER)/$(SONAME) ] || install -D -m 755 $(NEWER)/$(SONAME) $(LIB)/$(NEWER:$(OUT)/%=%)/$(SONAME)
 	sed -e 's|@PREFIX@|$(PREFIX)|' -e 's|@VERSION@|$(VERSION)|' c/psxgpu.pc.in > $(LIB)/pkgconfig/psxgpu.pc
 
 uninstall:
 	rm -f $(BIN)/psxgpu_tool $(INCLUDE)/psxgpu.h $(INCLUDE)/psxgpu_capture.h $(LIB)/libpsxgpu.a $(LIB)/$(SONAME) $(LIB)/libpsxgpu.so \
-	  $(LIB)/pkgconfig/psxgpu.pc $(MAN)/psxgpu_tool.1
+	  $(LIB)/$(NEWER:$(OUT)/%=%)/$(SONAME) $(LIB)/pkgconfig/psxgpu.pc $(MAN)/psxgpu_tool.1
 	packaging/install --remove "$(DESTDIR)" "$(PREFIX)" "$(PYTHON)"
 
-dist deb: $(PLAYER) lib
+dist deb: $(PLAYER) lib $(if $(filter x86_64,$(ARCH)),lib-v3)
 	PLAYER=$(abspath $(PLAYER)) python3 packaging/packages.py $@

@@ -1,17 +1,25 @@
-"""The crates of the repository, what of them is left to prove, and in which order."""
+"""The crates of the repository, what of them is left to prove, and in which order.
+
+    python3 packaging/build_plan.py CRATE [JOBS]
+
+prints by how many processors a crate is proved if no other is proved beside it: at most JOBS, and as memory holds.
+"""
 import os
 import shutil
+import sys
 from typing import Dict, List, Optional, Set, Tuple
 
 ROOT = os.path.dirname(os.path.dirname(os.path.abspath(__file__)))
 PARTS = ('src', 'specs', 'proofs')
 # What proving takes, as it was measured on one processor: seconds for a crate, and for each of its lines.
-SECONDS, SECONDS_A_LINE = 25, 0.028
+SECONDS, SECONDS_A_LINE = 30, 0.038
 # The processors of a run are not always all at work: so much longer it takes than all on all of them.
-LOSS = 1.2
+LOSS = 1.45
 # The memory of a check in bytes: for a crate, and for each of its lines.
 BYTES, BYTES_A_LINE = 800_000_000, 200_000
 MOST_JOBS = 4
+# The part of free memory that checks may take.
+ROOM = 0.85
 
 
 def read_crates() -> Dict[str, List[str]]:
@@ -67,6 +75,22 @@ def free_memory() -> int:
         return 0
 
 
+def memory_of(lines: int) -> float:
+    """Returns the memory of a check of so many lines by one processor."""
+    return BYTES + BYTES_A_LINE * lines
+
+
+def taken(memory: float, jobs: int) -> float:
+    """Returns the memory that a check takes with so many processors, from what it takes with one."""
+    return memory * (0.4 + 0.6 * jobs)
+
+
+def jobs_alone(crate: str, most: int) -> int:
+    """Returns by how many processors, at most `most`, a crate is proved if no other is proved beside it."""
+    room, memory = ROOM * free_memory(), memory_of(count_lines(crate))
+    return max((it for it in range(1, min(most, MOST_JOBS) + 1) if taken(memory, it) <= room), default=1)
+
+
 class Plan:
     """What is left to prove, and what may be begun next."""
 
@@ -75,10 +99,10 @@ class Plan:
         lines = {name: count_lines(name) for name in left}
         self.below: Dict[str, Set[str]] = {name: {*all_below(needs, name)} & {*left} for name in left}
         self.seconds = {name: SECONDS + SECONDS_A_LINE * lines[name] for name in left}
-        self.memory = {name: BYTES + BYTES_A_LINE * lines[name] for name in left}
+        self.memory = {name: memory_of(lines[name]) for name in left}
         self.fixed = jobs is not None
         self.lanes = jobs or len(os.sched_getaffinity(0))
-        self.room = 0.85 * free_memory()
+        self.room = ROOM * free_memory()
         # A crate and the longest chain of crates that wait for it.
         self.chain: Dict[str, float] = {}
         for name in reversed(left):
@@ -115,9 +139,13 @@ class Plan:
 
     def taken(self, name: str, jobs: int) -> float:
         """Returns the memory that a crate takes with so many processors."""
-        return self.memory[name] * (0.4 + 0.6 * jobs)
+        return taken(self.memory[name], jobs)
 
     def end(self, name: str) -> None:
         """Notes that a crate is proved."""
         del self.running[name]
         self.done.add(name)
+
+
+if __name__ == '__main__':
+    print(jobs_alone(sys.argv[1], int(sys.argv[2]) if len(sys.argv) > 2 else len(os.sched_getaffinity(0))))

@@ -12,6 +12,8 @@ from common import NAME, Trouble, entries, epoch, glibc, gzipped, processor, run
 
 LIBRARY, FOR_C = 'libpsxgpu%s', 'libpsxgpu-dev'
 TRIGGERS = 'activate-noawait ldconfig\n'
+# Where the loader of glibc finds the library for a processor of level x86-64-v3 by itself.
+NEWER = 'glibc-hwcaps/x86-64-v3'
 
 
 def wrapped(words):
@@ -68,9 +70,14 @@ def move_library(place, targets):
     run([strip(), '--strip-unneeded', os.path.join(lib, soname)])
     run([strip(), '--strip-debug', '--enable-deterministic-archives', os.path.join(lib, 'libpsxgpu.a')])
     os.chmod(os.path.join(lib, soname), 0o644)
-    for name, target in ((soname, targets[0]), (None, targets[1])):
+    newer = os.path.join(lib, NEWER, soname)
+    if os.path.exists(newer):
+        run([strip(), '--strip-unneeded', newer])
+        os.chmod(newer, 0o644)
+    for_programs = {soname, NEWER.split('/')[0]} & {*os.listdir(lib)}
+    for names, target in ((for_programs, targets[0]), ({*os.listdir(lib)} - for_programs - {'python3'}, targets[1])):
         os.makedirs(os.path.join(target, 'usr/lib'))
-        for it in [name] if name else sorted(set(os.listdir(lib)) - {'python3'}):
+        for it in sorted(names):
             shutil.move(os.path.join(lib, it), os.path.join(target, 'usr/lib', it))
     shutil.move(os.path.join(place, 'usr/include'), os.path.join(targets[1], 'usr/include'))
     write(os.path.join(targets[0], 'DEBIAN'), 'shlibs', b'libpsxgpu %s libpsxgpu%s (>= %s)\n'
