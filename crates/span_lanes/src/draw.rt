@@ -25,7 +25,6 @@
 ghost use Rattle.std.specs.Prelude.{◌≡◌};
 ghost use Rattle.span_lanes.specs.TriangleDrawer.{AreContiguous};
 ghost use Rattle.span_lanes.specs.Draws.{CanDraw, DrawsSpan, at_stage};
-ghost use Rattle.span_lanes.specs.Guard.{HasClutInOtherRow};
 ghost use Rattle.span_lanes.specs.CachedClut.{CanTakeTexels};
 ghost use Rattle.span_lanes.specs.Paints.{row_paint};
 ghost use Rattle.span_lanes.specs.SpanDrawer.{IsShadingFor, state_of};
@@ -53,9 +52,8 @@ use crate::untextured::draw_untextured;
 use std::sync::ledger::Ledger;
 use vram_store::{Steps, Vram};
 
-// Draws a span of contiguous texels. It must have no hazard, and its palette must be in another row. If the palette can
-// be modulated once, caches it in `last`; otherwise sets `last` to `None`. Entries in `last` must equal those in video
-// memory.
+// Draws a span of contiguous texels. It must have no hazard. If the palette can be modulated once, caches it in `last`;
+// otherwise sets `last` to `None`. Entries in `last` must equal those in video memory.
 #[inline(always)]
 fn draw_contiguous<L: Ledger>(
     vram: &mut Vram,
@@ -68,7 +66,6 @@ fn draw_contiguous<L: Ledger>(
     requires take { CanTakeTexels span.now found.now.texture.now (IsTexelRun span.now found.now.texture.now
         found.now.sampler) vram.old }
     requires shading { IsShadingFor span.now.paint shading.now }
-    requires palette { HasClutInOtherRow found.now.texture.now span.now.y }
     requires last { IsCached span.now.paint vram.old last.old }
     ensures drawn { DrawsSpan span.now 0 (at_stage vram.old steps.old) (at_stage vram.new steps.new) }
     ensures last { IsCached span.now.paint vram.new last.new }

@@ -1,4 +1,3 @@
-use Rattle.std.proofs.Common.{inl, inr, arith}
 use Rattle.span_lanes.proofs.HazardFreeLemmas.{span_apart}
 use Rattle.span_lanes.proofs.hazard_free.is_clip_hazard_free.Goals as goal
 
@@ -8,8 +7,4 @@ returns-then-is_clip_outside_page c off = record {
       span_apart s c.args.texture.now is c.requires.texture of_paint
       (c.is_clip_outside_page.ensures c.if-is_clip_outside_page.true s.x s.y s.n within)
       (c.is_clip_off_clut.ensures off s.x s.y s.n within);
-  palette = λ s within four same. elim (c.is_clip_off_clut.ensures off s.x s.y s.n within) [
-    | inl deep ↦ omega (arith, deep, four)
-    | inr other ↦ other same
-  ];
 }

@@ -1,5 +1,4 @@
 use Rattle.std.proofs.Common.{refl}
-use Rattle.span_lanes.specs.TexelRows.{texel_span}
 use Rattle.span_lanes.proofs.rectangle_drawer.CachedClutRowsTexelRowsMethod.draw_row.Goals as goal
 
 pub draw_cached-requires-clause-can : goal.draw_cached-requires-clause-can
@@ -13,7 +12,6 @@ draw_cached-requires-clause-can g c =
       suits = record {
         hazard_free = keeps.hazard_free.hazard_free _ refl asked.can.span asked.in_block;
         depth = keeps.depth;
-        row = keeps.hazard_free.palette (texel_span rows c.args.y c.args.v) asked.in_block keeps.depth;
         even = keeps.even;
       };
       finds = c.texel_run-texel_run.ensures c.args.y;

@@ -1,6 +1,6 @@
 use Rattle.std.proofs.Common.{◌≡◌, ◌+◌, ◌&&◌, not, ℕ, ◌<◌, ◌∙◌, arith}
 use Rattle.span_lanes.proofs.ColorLemmas.{no_shift}
-use Rattle.span_lanes.proofs.ColoredClutLemmas.{swatches_kept}
+use Rattle.span_lanes.proofs.ColoredClutLemmas.{clut_missed, swatches_kept}
 use Rattle.span_lanes.proofs.PlanLemmas.{apart_cost}
 use Rattle.span_lanes.proofs.ChunkDrawLemmas.{sample_stays}
 use Rattle.span_lanes.proofs.texels.CachedClutChunkDrawer.draw_chunk.Goals as goal
@@ -51,6 +51,8 @@ pub returns-clause-serves : goal.returns-clause-serves
 returns-clause-serves g c =
     let is = c.requires.serves in
     let chunk = c.args.chunk.now in
+    let none = clut_missed chunk.span.now c.args.self.now.texture chunk.first chunk.k is.can.sample.texture
+    is.can.suits.depth (is.can.suits.hazard_free.free chunk.first chunk.k c.requires.chunk.within) in
     record {
       can = record {
         sample = sample_stays is.can.sample c.draw_texels.ensures.others.count;
@@ -61,5 +63,5 @@ returns-clause-serves g c =
       raw = is.raw;
       colored = is.colored;
       entries = swatches_kept c.args.self.now.texture (chunk.span.now.x + chunk.first) chunk.span.now.y chunk.k _ _ _
-          c.draw_texels.ensures.others (omega arith) is.can.suits.row is.entries;
+          c.draw_texels.ensures.others (omega arith) none is.entries;
     }
