@@ -1,6 +1,6 @@
 -- Spans that have no cell of their texture or palette.
 use Rattle.std.proofs.Common.{◌≡◌, ◌<◌, ◌≤◌, ℕ, Option, None, Some, Bool, true, false, cond, eqb, ◌+◌, ◌-◌, ◌*◌, ◌/◌}
-use Rattle.std.proofs.Common.{inl, inr, map, refl, arith}
+use Rattle.std.proofs.Common.{◌%◌, ◌∙◌, inl, inr, map, refl, arith}
 use Rattle.std.specs.Prelude.{IfSome}
 use Rattle.std.specs.Option.{MatchOption}
 use Rattle.std.specs.List.{range_with_len}
@@ -18,6 +18,7 @@ use Rattle.texel_lanes.specs.Texture.{IsTexture}
 use Rattle.span_lanes.specs.Shade.{IsSpan, texture_of}
 use Rattle.span_lanes.specs.Guard.{paint_texel, paint_texels, target, palette_of, page_width, IsHazardFree}
 use Rattle.span_lanes.specs.Guard.{LiesOutsideClut, LiesOutsidePage, LiesOutsideStrip}
+use Rattle.span_lanes.specs.HazardFree.{AreTexelsApart}
 
 -- a coordinate after the window is within the page
 pub windowed_small : (mask off v : ℕ) → mask ≤ 31 → windowed mask off v < 256
@@ -62,20 +63,30 @@ strip_apart (Some strip) x y n first k (inr (inl right)) room within h =
 strip_apart (Some strip) x y n first k (inr (inr left)) room within h =
     omega (arith, left.0, left.1, h.1, h.2.1, h.2.2.0)
 
-pub span_apart : (span : Span) (t : Texture) → IsSpan span → IsTexture t → texture_of span.paint ≡ Some t
-    → LiesOutsidePage t span.x span.y span.n → LiesOutsideClut t span.x span.y span.n → IsHazardFree span
+pub page_apart : (span : Span) (t : Texture) → IsSpan span → IsTexture t
+    → LiesOutsidePage t span.x span.y span.n → AreTexelsApart span t
+page_apart span t is texture outside = record {
+  apart = λ i k lt low before across down.
+      texel_apart t span.x span.y span.n _ _ (span.x + k) texture outside is.in_row (omega arith) (omega arith) across
+      down;
+}
+
+-- a span without a hazard (our own rule: the chunks before a chunk are finished, so only texels in the cells of their
+-- own chunk matter, to the left of the cell that reads them)
+pub chunks_free : (span : Span) (t : Texture) → IsSpan span → texture_of span.paint ≡ Some t
+    → AreTexelsApart span t → LiesOutsideClut t span.x span.y span.n → IsHazardFree span
 unfolding paint_texels
-span_apart span t is texture of_paint outside off = record {
-  free = λ first n within h. elim (rw of_paint at h) [
-    | inl read ↦ read_none first n within read
+chunks_free span t is of_paint texels off = record {
+  free = λ first n cut few within h. elim (rw of_paint at h) [
+    | inl read ↦ read_none first n cut few within read
     | inr strip ↦ strip_apart (palette_of t) span.x span.y span.n first n off is.in_row within strip
   ];
 }
   where
-    read_none : (first n : ℕ) → first + n ≤ span.n
+    read_none : (first n : ℕ) → first % 16 ≡ 0 → n ≤ 16 → first + n ≤ span.n
         → HasTexelHazard (map (paint_texel span.paint t span.x span.y) (range_with_len first n))
         (target span.x span.y first) → ⊥
-    read_none first n within h =
+    read_none first n cut few within h =
         let j : ℕ = h.0 in
         let f : ℕ → Cell = paint_texel span.paint t span.x span.y in
         let long = length-map-range_with_len f first n in
@@ -83,5 +94,6 @@ span_apart span t is texture of_paint outside off = record {
         let here : cell_at (map f (range_with_len first n)) j ≡ f (first + j) = get_or-map-range_with_len f first n j
         (first + j) _ lt refl in
         let written : WrittenBefore (target span.x span.y first) j (f (first + j)) = rw here at h.2 in
-        texel_apart t span.x span.y span.n _ _ (span.x + first + written.0) texture outside is.in_row
-        (omega arith) (omega (arith, written.1)) written.2.0 written.2.1
+        let same : span.x + first + written.0 ≡ span.x + (first + written.0) = omega arith in
+        texels.apart (first + j) (first + written.0) (omega arith) (omega arith) (omega (arith, written.1))
+        (written.2.0 ∙ same) written.2.1

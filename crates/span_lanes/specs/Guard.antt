@@ -91,6 +91,6 @@ LiesOutsideStrip strip x y n = (strip.y ≢ y) ⊎ LiesOutsideColumns strip.x st
 abbrev pub LiesOutsideClut : Texture → ℕ → ℕ → ℕ → Type 0
 LiesOutsideClut t x y n = IfSome (palette_of t) (λ strip. LiesOutsideStrip strip x y n)
 
--- no cells of a span have a hazard
+-- no chunk of a span has a hazard: up to sixteen cells, from a multiple of sixteen on
 pub record IsHazardFree (span : Span) : Type 0 where
-  pub free : (first n : ℕ) → first + n ≤ span.n → HasHazard span first n → ⊥
+  pub free : (first n : ℕ) → first % 16 ≡ 0 → n ≤ 16 → first + n ≤ span.n → HasHazard span first n → ⊥

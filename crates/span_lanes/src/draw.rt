@@ -38,12 +38,12 @@ use crate::by_coords::draw_by_coords;
 use crate::cached_clut::{can_cache_clut, draw_cached_run};
 use crate::chunk_loop::draw_chunks;
 use crate::colored_clut::ColoredClut;
-use crate::hazard_free::is_hazard_free;
 use crate::paint_setup::PaintSetup;
 use crate::row_setup::{rectangle_row_setup, triangle_row_setup};
 use crate::sampler::{BoundSampler, FlatTexels, sampler_of};
 use crate::shading::Shading;
 use crate::solid::Solid;
+use crate::texel_hazards::is_run_hazard_free;
 use crate::texel_row::TexelRow;
 use crate::texel_run::{TexelRun, rectangle_row_run, triangle_row_run};
 use crate::texel_run_rows::draw_texel_run;
@@ -141,7 +141,7 @@ pub(crate) fn draw_row<L: Ledger>(
     ensures last { IsCached span.now.paint vram.new last.new }
 {
     match rectangle_row_run(span, row) {
-        Some(texel_run) if is_hazard_free(span, &row.texture) => {
+        Some(texel_run) if is_run_hazard_free(span, &row.texture, texel_run) => {
             let found = sampler_of(&row.texture, texel_run);
             let shading = Shading::OneColor { color: row.color };
             draw_contiguous(vram, span, &found, &shading, last, steps)

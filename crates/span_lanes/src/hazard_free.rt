@@ -58,7 +58,7 @@ fn is_off_strip(span: &Span, strip: &Strip) -> bool
 }
 
 // Returns true only if the texture has no palette, or the span has no cell of it.
-fn is_off_clut(span: &Span, texture: &Texture) -> bool
+pub(crate) fn is_off_clut(span: &Span, texture: &Texture) -> bool
     requires span { IsSpan span.now }
     ensures { IsTrue result → LiesOutsideClut texture.now span.now.x span.now.y span.now.n }
 {
@@ -79,7 +79,7 @@ pub(crate) fn is_hazard_free(span: &Span, texture: &Texture) -> bool
 
 // Returns true only if all cells of the clip rectangle are outside the texture page: above or below its rows, or to the
 // left or right of its columns.
-fn is_clip_outside_page(clip_rect: &ClipRect, texture: &Texture) -> bool
+pub(crate) fn is_clip_outside_page(clip_rect: &ClipRect, texture: &Texture) -> bool
     requires clip_rect { IsClipRect 1024 clip_rect.now }
     requires texture { IsTexture texture.now }
     ensures { IsTrue result → (x y n : ℕ) → IsInClip clip_rect.now x y n → LiesOutsidePage texture.now x y n }
@@ -101,7 +101,7 @@ fn is_clip_off_strip(clip_rect: &ClipRect, strip: &Strip) -> bool
 }
 
 // Returns true only if the texture has no palette, or the clip rectangle has no cell of it.
-fn is_clip_off_clut(clip_rect: &ClipRect, texture: &Texture) -> bool
+pub(crate) fn is_clip_off_clut(clip_rect: &ClipRect, texture: &Texture) -> bool
     requires clip_rect { IsClipRect 1024 clip_rect.now }
     ensures { IsTrue result → (x y n : ℕ) → IsInClip clip_rect.now x y n → LiesOutsideClut texture.now x y n }
 {

@@ -10,7 +10,8 @@ draw_cached-requires-clause-can g c =
     (record {
       sample = record { can = asked.can; texture = refl };
       suits = record {
-        hazard_free = keeps.hazard_free.hazard_free _ refl asked.can.span asked.in_block;
+        hazard_free = rw asked.row (keeps.hazard_free.free c.args.y asked.in_block.top asked.in_block.bottom
+            (rw asked.row at asked.can.span));
         depth = keeps.depth;
         even = keeps.even;
       };

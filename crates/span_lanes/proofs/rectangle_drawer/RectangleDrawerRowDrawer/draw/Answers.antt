@@ -26,6 +26,7 @@ draw_row-requires-clause-can g c =
     record {
       can = subst (λ (s : Span). CanDraw s c.args.vram.now) is c.requires.can;
       in_block = record { left = omega arith; right = omega arith; top = whole.top; bottom = whole.bottom };
+      row = c.texel_row-v.ensures;
     }
 
 pub returns-clause-drawn : goal.returns-clause-drawn
