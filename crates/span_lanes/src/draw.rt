@@ -18,7 +18,8 @@
 // - `Shaded` of the same three, each opaque or not, in `draw_shaded`: contiguous modulated texels. [rectangle 8-bit
 //   modulated]
 // - `CachedClut<&TexCoords>` and `RowSetup`, by the coordinates of each texel: in `draw_row_by_coords` [rectangle that
-//   is flipped], and in `draw_tri`, if spans in the triangle's clip rectangle may have a hazard.
+//   is flipped], and in `draw_tri`, if spans in the triangle's clip rectangle may have a hazard. In such a rectangle
+//   contiguous rows without a hazard are drawn by the loops above. [triangle 15-bit raw, edge of its page]
 //
 // Rectangles that cache their palette for all rows have four more loops of `CachedClut<TexelRun>`, in
 // `CachedClutRows::draw_row`. [rectangle, sprite 4-bit]

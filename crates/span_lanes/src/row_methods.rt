@@ -48,7 +48,7 @@ pub(crate) fn is_contiguous(tri: &Tri, texture: &Texture) -> bool
 }
 
 /// Returns how the rows of a triangle are drawn in a clip rectangle. `None` if that may have a cell of the texture page
-/// or the CLUT: then [`SpanDrawer`](crate::SpanDrawer) draws them.
+/// or the CLUT: then [`SpanDrawer`](crate::SpanDrawer) draws them, and tests each row.
 #[inline(always)]
 pub fn row_method(
     tri: &Tri,
