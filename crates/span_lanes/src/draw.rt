@@ -5,7 +5,8 @@
 // not forced. In brackets: a workload of the benchmark.
 //
 // - `Solid`, in `draw_ready` and `draw_solid`: all cells become one halfword, and nothing is read. [triangle flat]
-// - `Untextured`, in `draw_flat`: one colour that is blended, tested or dithered. [rectangle B+F]
+// - `Untextured`, five in `draw_flat`: one colour that is blended, one loop for each mode [rectangle B+F], or that is
+//   tested or dithered.
 // - `Untextured`, two in `draw_gouraud`: three channels that change along the row, opaque or not. [triangle gouraud]
 // - `CachedClut<TexelRun>`, in `CachedClutMethod::draw_row`: a cached palette and opaque pixels. The loop is inlined
 //   into the loop over the rows. [triangle 4-bit modulated]

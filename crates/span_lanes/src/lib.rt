@@ -37,6 +37,7 @@ mod guarded_chunk;
 mod guarded_triangle;
 mod hazard_free;
 pub mod laws;
+mod mode_loops;
 mod modulated;
 mod opaque;
 mod paint_setup;
