@@ -16,14 +16,20 @@ use texel_lanes::column_of;
 use texture_page::texel_cell;
 
 // Returns whether no cell of a span reads what an earlier cell of its chunk writes, if its texels are contiguous and in
-// its own row. `first` and `last` are the columns of the first and the last texel's cells. Either they are to the left
-// of what its chunk writes, or each is in the cell's own column or to the right of it.
+// its own row. Their cells are to the left of what the chunk writes, or each is in the reading cell's own column or to
+// the right of it.
 #[inline(always)]
-fn are_columns_apart(span: &Span, first: u16, last: u16) -> bool
+fn are_columns_apart(span: &Span, texture: &Texture, texel_run: TexelRun) -> bool
     requires span { IsSpan span.now }
-    requires row { (first ≤ 1024) × (last ≤ 1024) }
-    ensures { IsTrue result → AreColumnsApart first last span.now.x span.now.n }
+    requires texture { IsTexture texture.now }
+    requires finds { IsTexelRun span.now texture.now texel_run }
+    ensures { IsTrue result
+        → AreColumnsApart (texture.now.page.x + column texture.now.page.depth texel_run.u)
+        (texture.now.page.x + column texture.now.page.depth (texel_run.u + span.now.n - 1)) span.now.x span.now.n }
 {
+    let page = texture.page;
+    let first = page.x + column_of(page.depth, texel_run.u);
+    let last = page.x + column_of(page.depth, texel_run.u + span.n - 1);
     last < span.x || first + 16 <= span.x || span.x + span.n <= last + 1
 }
 
@@ -36,10 +42,7 @@ fn is_run_apart(span: &Span, texture: &Texture, texel_run: TexelRun) -> bool
     requires finds { IsTexelRun span.now texture.now texel_run }
     ensures { IsTrue result → AreTexelsApart span.now texture.now }
 {
-    let page = texture.page;
-    let first = page.x + column_of(page.depth, texel_run.u);
-    let last = page.x + column_of(page.depth, texel_run.u + span.n - 1);
-    texel_run.y != span.y || are_columns_apart(span, first, last)
+    texel_run.y != span.y || are_columns_apart(span, texture, texel_run)
 }
 
 // Returns true only if a span of contiguous texels has no hazard. They are those of `texel_run`.
