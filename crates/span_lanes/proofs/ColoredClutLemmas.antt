@@ -1,6 +1,6 @@
 -- Texels drawn through a modulated palette.
 use Rattle.std.proofs.Common.{◌≡◌, ◌≤◌, ◌<◌, ℕ, List, ◌+◌, ◌*◌, sym, ◌∙◌, arith, Option, None, Some, inr}
-use Rattle.std.specs.Prelude.{IfSome, slice_index}
+use Rattle.std.specs.Prelude.{IfSome}
 use Rattle.texture_page.specs.Page.{clut_place}
 use Rattle.vram_store.specs.Chunk.{AgreesApart}
 use Rattle.texel_lanes.specs.declared.texture.Texture.{Texture}
@@ -13,7 +13,6 @@ use Rattle.span_lanes.specs.declared.span.Span.{Span}
 use Rattle.std.specs.Option.{MatchOption}
 use Rattle.span_lanes.specs.ColoredClut.{IsColoredClut, AreClutEntries, IsColoredClutOf, HasPalette, IsPalette}
 use Rattle.span_lanes.specs.ColoredClut.{IsColoredBy}
-use Rattle.texel_lanes.specs.Table.{entry_at}
 use Rattle.span_lanes.proofs.BlindLemmas.{same_cell}
 
 -- a chunk of a span without a hazard has no cell of the palette

@@ -1,5 +1,5 @@
 -- A palette of sixteen entries, modulated by one colour.
-use Rattle.std.specs.Prelude.{ℕ, ◌≡◌, ◌&&◌, not, false, pos, List, slice_index}
+use Rattle.std.specs.Prelude.{ℕ, ◌≡◌, ◌&&◌, not, false, pos, List}
 use Rattle.std.specs.Prelude.{Bool, Option, None, Some, IfSome}
 use Rattle.px_num.specs.Lanes.{EachLane}
 use Rattle.texture_page.specs.Page.{clut_place}
