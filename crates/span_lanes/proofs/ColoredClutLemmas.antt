@@ -1,30 +1,43 @@
 -- Texels drawn through a modulated palette.
-use Rattle.std.proofs.Common.{◌≡◌, ◌≢◌, ◌≤◌, ◌<◌, ℕ, List, ◌+◌, ◌*◌, sym, ◌∙◌, arith, Option, None, Some}
-use Rattle.std.specs.Prelude.{IfSome, slice_index}
+use Rattle.std.proofs.Common.{◌≡◌, ◌≤◌, ◌<◌, ℕ, List, ◌+◌, ◌*◌, sym, ◌∙◌, arith, Option, None, Some, inr}
+use Rattle.std.specs.Prelude.{IfSome}
 use Rattle.texture_page.specs.Page.{clut_place}
 use Rattle.vram_store.specs.Chunk.{AgreesApart}
 use Rattle.texel_lanes.specs.declared.texture.Texture.{Texture}
 use Rattle.span_lanes.specs.declared.colored_clut.ColoredClut.{ColoredClut}
-use Rattle.texel_lanes.specs.Texture.{at_cell, clut_row}
+use Rattle.overlap_guard.specs.Hazard.{HasStripHazard}
+use Rattle.texel_lanes.specs.Texture.{at_cell}
+use Rattle.span_lanes.specs.Guard.{clut_strip, palette_of, target, HasHazard}
+use Rattle.span_lanes.specs.Shade.{texture_of}
+use Rattle.span_lanes.specs.declared.span.Span.{Span}
+use Rattle.std.specs.Option.{MatchOption}
 use Rattle.span_lanes.specs.ColoredClut.{IsColoredClut, AreClutEntries, IsColoredClutOf, HasPalette, IsPalette}
 use Rattle.span_lanes.specs.ColoredClut.{IsColoredBy}
-use Rattle.texel_lanes.specs.Table.{entry_at}
 use Rattle.span_lanes.proofs.BlindLemmas.{same_cell}
 
--- writes to another row do not change the palette
+-- a chunk of a span without a hazard has no cell of the palette
+pub clut_missed : (span : Span) (t : Texture) (first k : ℕ) → texture_of span.paint ≡ Some t → t.page.depth ≡ 0
+    → (HasHazard span first k → ⊥) → HasStripHazard (clut_strip t.clut 16) (target span.x span.y first) k → ⊥
+clut_missed span t first k of_paint four none hazard =
+    let strip : MatchOption (palette_of t) ⊥ (λ strip. HasStripHazard strip (target span.x span.y first) k)
+    = rw four hazard in
+    none (rw of_paint (inr strip))
+
+-- a chunk that has no cell of the palette does not change it
 pub swatches_kept : (t : Texture) (x y k : ℕ) (m now : List ℕ) (colored_clut : ColoredClut)
-    → AgreesApart (1024 * y + x) k m now → x + k ≤ 1024 → clut_row t.clut ≢ y
+    → AgreesApart (1024 * y + x) k m now → x + k ≤ 1024
+    → (HasStripHazard (clut_strip t.clut 16) (record { x = x; y = y }) k → ⊥)
     → IsColoredClutOf t m colored_clut → IsColoredClutOf t now colored_clut
-swatches_kept t x y k m now colored_clut agree room other is = record {
+swatches_kept t x y k m now colored_clut agree room none is = record {
   entries = is.entries;
   modulated = is.modulated;
-  entry = λ i lt. is.entry i lt ∙ sym (cell i);
+  entry = λ i lt. is.entry i lt ∙ sym (cell i lt);
   front = is.front;
 }
   where
-    cell : (i : ℕ) → at_cell now (clut_place t.clut i) ≡ at_cell m (clut_place t.clut i)
-    cell i = same_cell m now x y k (clut_place t.clut i).x (clut_place t.clut i).y agree (omega arith) room
-        (λ j less e f. other f)
+    cell : (i : ℕ) → i < 16 → at_cell now (clut_place t.clut i) ≡ at_cell m (clut_place t.clut i)
+    cell i lt = same_cell m now x y k (clut_place t.clut i).x (clut_place t.clut i).y agree (omega arith) room
+        (λ j less e f. none (i, lt, (j, less, (e, f))))
 
 pub palette_is : (t : Texture) (m : List ℕ) (color : ℕ) (s : ColoredClut) → IsColoredClut s
     → AreClutEntries t m s.entries

@@ -1,21 +1,23 @@
 -- Spans that have no cell of their texture or palette.
-use Rattle.std.proofs.Common.{◌≡◌, ◌≢◌, ◌<◌, ◌≤◌, ℕ, None, Some, Bool, true, false, cond, eqb, ◌+◌, ◌-◌, ◌*◌, ◌/◌}
-use Rattle.std.proofs.Common.{◌⊎◌, inl, inr, map, refl, ◌∙◌, arith}
+use Rattle.std.proofs.Common.{◌≡◌, ◌<◌, ◌≤◌, ℕ, Option, None, Some, Bool, true, false, cond, eqb, ◌+◌, ◌-◌, ◌*◌, ◌/◌}
+use Rattle.std.proofs.Common.{◌%◌, ◌∙◌, inl, inr, map, refl, arith}
+use Rattle.std.specs.Prelude.{IfSome}
 use Rattle.std.specs.Option.{MatchOption}
 use Rattle.std.specs.List.{range_with_len}
 use Rattle.std.proofs.lemmas.List.FromFn.{get_or-map-range_with_len, length-map-range_with_len}
 use Rattle.std.proofs.lemmas.Nat.{or_of_8, and_le_r}
-use Rattle.std.proofs.lemmas.Bool.Decides.{nat_tests}
 use lib.Bits.{bit_and}
 use Rattle.px_num.specs.declared.shape.Cell.{Cell}
+use Rattle.px_num.specs.declared.shape.Strip.{Strip}
 use Rattle.texture_page.specs.Page.{texel_place, column, windowed}
 use Rattle.overlap_guard.specs.Hazard.{WrittenBefore, cell_at, HasTexelHazard, HasStripHazard}
 use Rattle.texel_lanes.specs.declared.texture.Texture.{Texture}
 use Rattle.span_lanes.specs.declared.span.Span.{Span}
-use Rattle.texel_lanes.specs.Texture.{IsTexture, clut_row}
+use Rattle.texel_lanes.specs.Texture.{IsTexture}
 use Rattle.span_lanes.specs.Shade.{IsSpan, texture_of}
-use Rattle.span_lanes.specs.Guard.{paint_texel, paint_texels, target, clut_strip, page_width, IsHazardFree}
-use Rattle.span_lanes.specs.Guard.{LiesOutsidePage}
+use Rattle.span_lanes.specs.Guard.{paint_texel, paint_texels, target, palette_of, page_width, IsHazardFree}
+use Rattle.span_lanes.specs.Guard.{LiesOutsideClut, LiesOutsidePage, LiesOutsideStrip}
+use Rattle.span_lanes.specs.HazardFree.{AreTexelsApart}
 
 -- a coordinate after the window is within the page
 pub windowed_small : (mask off v : ℕ) → mask ≤ 31 → windowed mask off v < 256
@@ -33,57 +35,57 @@ column_small depth u lt = by_depth (eqb depth 0) (eqb depth 1)
     by_depth false true = omega arith
     by_depth false false = lt
 
-texel_apart : (t : Texture) (x y n u v cx : ℕ) → IsTexture t → LiesOutsidePage t x y n → x ≤ cx → cx < x + n
+texel_apart : (t : Texture) (x y n u v cx : ℕ) → IsTexture t → LiesOutsidePage t x y n → x + n ≤ 1024
+    → x ≤ cx → cx < x + n
     → (texel_place t.page t.window u v).x ≡ cx → (texel_place t.page t.window u v).y ≡ y → ⊥
-texel_apart t x y n u v cx is (inl (inl above)) low high across down = omega arith
-texel_apart t x y n u v cx is (inl (inr below)) low high across down =
+texel_apart t x y n u v cx is (inl (inl above)) room low high across down = omega arith
+texel_apart t x y n u v cx is (inl (inr below)) room low high across down =
     let row = windowed_small t.window.mask_y t.window.off_y v is.window.mask_y in
     omega (arith, row)
-texel_apart t x y n u v cx is (inr contiguous) low high across down =
+texel_apart t x y n u v cx is (inr (inl right)) room low high across down =
     let col = column_small t.page.depth (windowed t.window.mask_x t.window.off_x u)
     (windowed_small t.window.mask_x t.window.off_x u is.window.mask_x) in
-    elim contiguous.1 [
-      | inl left ↦ omega (arith, col, contiguous.0)
-      | inr right ↦ omega (arith, col, contiguous.0)
-    ]
+    omega (arith, col, right)
+texel_apart t x y n u v cx is (inr (inr left)) room low high across down =
+    let col = column_small t.page.depth (windowed t.window.mask_x t.window.off_x u)
+    (windowed_small t.window.mask_x t.window.off_x u is.window.mask_x) in
+    omega (arith, col, left.0, left.1)
 
-abbrev StripHazard : Bool → Bool → ℕ → Cell → ℕ → Type 0
-StripHazard four eight clut to n = MatchOption
-    (cond four (Some (clut_strip clut 16)) (cond eight (Some (clut_strip clut 256)) None)) ⊥
-    (λ strip. HasStripHazard strip to n)
+-- a chunk of a row that has no cell of the palette
+strip_apart : (palette : Option Strip) (x y n first k : ℕ)
+    → IfSome palette (λ strip. LiesOutsideStrip strip x y n) → x + n ≤ 1024 → first + k ≤ n
+    → MatchOption palette ⊥ (λ strip. HasStripHazard strip (target x y first) k) → ⊥
+strip_apart None x y n first k apart room within h = h
+strip_apart (Some strip) x y n first k (inl other) room within h = other h.2.2.1
+strip_apart (Some strip) x y n first k (inr (inl right)) room within h =
+    omega (arith, right, h.1, h.2.1, h.2.2.0)
+strip_apart (Some strip) x y n first k (inr (inr left)) room within h =
+    omega (arith, left.0, left.1, h.1, h.2.1, h.2.2.0)
 
-strip_off : (four eight : Bool) (clut y : ℕ) (to : Cell) (n : ℕ) → clut_row clut ≢ y → to.y ≡ y
-    → StripHazard four eight clut to n → ⊥
-strip_off true eight clut y to n off row h = off (h.2.2.1 ∙ row)
-strip_off false true clut y to n off row h = off (h.2.2.1 ∙ row)
-strip_off false false clut y to n off row h = h
+pub page_apart : (span : Span) (t : Texture) → IsSpan span → IsTexture t
+    → LiesOutsidePage t span.x span.y span.n → AreTexelsApart span t
+page_apart span t is texture outside = record {
+  apart = λ i k lt low before across down.
+      texel_apart t span.x span.y span.n _ _ (span.x + k) texture outside is.in_row (omega arith) (omega arith) across
+      down;
+}
 
-no_strip : (four eight : Bool) (clut : ℕ) (to : Cell) (n : ℕ) → four ≡ false → eight ≡ false
-    → StripHazard four eight clut to n → ⊥
-no_strip false false clut to n e f h = h
-no_strip true eight clut to n e f h = absurd (cc)
-no_strip false true clut to n e f h = absurd (cc)
-
-strip_apart : (depth clut y : ℕ) (to : Cell) (n : ℕ) → (2 ≤ depth) ⊎ (clut_row clut ≢ y) → to.y ≡ y
-    → StripHazard (eqb depth 0) (eqb depth 1) clut to n → ⊥
-strip_apart depth clut y to n (inl deep) row h = no_strip (eqb depth 0) (eqb depth 1) clut to n
-    (grind (arith, nat_tests)) (grind (arith, nat_tests)) h
-strip_apart depth clut y to n (inr off) row h = strip_off (eqb depth 0) (eqb depth 1) clut y to n off row h
-
-pub span_apart : (span : Span) (t : Texture) → IsSpan span → IsTexture t → texture_of span.paint ≡ Some t
-    → LiesOutsidePage t span.x span.y span.n → (2 ≤ t.page.depth) ⊎ (clut_row t.clut ≢ span.y) → IsHazardFree span
+-- a span without a hazard (our own rule: the chunks before a chunk are finished, so only texels in the cells of their
+-- own chunk matter, to the left of the cell that reads them)
+pub chunks_free : (span : Span) (t : Texture) → IsSpan span → texture_of span.paint ≡ Some t
+    → AreTexelsApart span t → LiesOutsideClut t span.x span.y span.n → IsHazardFree span
 unfolding paint_texels
-span_apart span t is texture of_paint contiguous off = record {
-  free = λ first n within h. elim (rw of_paint at h) [
-    | inl read ↦ read_none first n within read
-    | inr strip ↦ strip_apart t.page.depth t.clut span.y (target span.x span.y first) n off refl strip
+chunks_free span t is of_paint texels off = record {
+  free = λ first n cut few within h. elim (rw of_paint at h) [
+    | inl read ↦ read_none first n cut few within read
+    | inr strip ↦ strip_apart (palette_of t) span.x span.y span.n first n off is.in_row within strip
   ];
 }
   where
-    read_none : (first n : ℕ) → first + n ≤ span.n
+    read_none : (first n : ℕ) → first % 16 ≡ 0 → n ≤ 16 → first + n ≤ span.n
         → HasTexelHazard (map (paint_texel span.paint t span.x span.y) (range_with_len first n))
         (target span.x span.y first) → ⊥
-    read_none first n within h =
+    read_none first n cut few within h =
         let j : ℕ = h.0 in
         let f : ℕ → Cell = paint_texel span.paint t span.x span.y in
         let long = length-map-range_with_len f first n in
@@ -91,5 +93,6 @@ span_apart span t is texture of_paint contiguous off = record {
         let here : cell_at (map f (range_with_len first n)) j ≡ f (first + j) = get_or-map-range_with_len f first n j
         (first + j) _ lt refl in
         let written : WrittenBefore (target span.x span.y first) j (f (first + j)) = rw here at h.2 in
-        texel_apart t span.x span.y span.n _ _ (span.x + first + written.0) texture contiguous (omega arith)
-        (omega (arith, written.1)) written.2.0 written.2.1
+        let same : span.x + first + written.0 ≡ span.x + (first + written.0) = omega arith in
+        texels.apart (first + j) (first + written.0) (omega arith) (omega arith) (omega (arith, written.1))
+        (written.2.0 ∙ same) written.2.1

@@ -14,6 +14,7 @@ pub mod GuardLemmas
 pub mod HazardFreeLemmas
 pub mod PlanLemmas
 pub mod SolidLemmas
+pub mod RowsHazardLemmas
 pub mod TexelLemmas
 pub mod TexelRowLemmas
 pub mod UntexturedLemmas

@@ -5,11 +5,11 @@ use Rattle.overlap_guard.specs.Hazard.{has_texture_hazard}
 use Rattle.texel_lanes.specs.declared.texture.Texture.{Texture}
 use Rattle.span_lanes.specs.declared.span.Paint.{Paint}
 use Rattle.span_lanes.specs.declared.chunk.Chunk.{Chunk}
-use Rattle.span_lanes.specs.declared.span.Span.{Span}
 use Rattle.span_lanes.specs.declared.tex_coords.TexCoords.{TexCoords}
 use Rattle.texel_lanes.specs.Texture.{texel, texel_steps}
 use Rattle.span_lanes.specs.Shade.{texture_of}
 use Rattle.span_lanes.specs.Cost.{chunk_cost}
+use Rattle.span_lanes.specs.Draws.{IsChunk}
 use Rattle.span_lanes.specs.Guard.{has_hazard, paint_texels, palette_of, target, IsHazardFree}
 use Rattle.texel_lanes.specs.Texels.{AreCoordinates}
 use Rattle.span_lanes.specs.Lanes.{HasCoordinates, columns_from, rows_from}
@@ -46,19 +46,19 @@ texels_here p t us vs m lanes at long read = record {
 }
 
 -- a chunk of a span without a hazard has none
-pub apart_free : (span : Span) (t : Texture) (first k : ℕ) → IsHazardFree span → first + k ≤ span.n
-    → texture_of span.paint ≡ Some t → has_hazard span first k ≡ false
+pub apart_free : (p : Chunk) (t : Texture) → IsChunk p → IsHazardFree p.span.now
+    → texture_of p.span.now.paint ≡ Some t → has_hazard p.span.now p.first p.k ≡ false
 unfolding has_hazard
-apart_free span t first k hazard_free within of_paint =
-    rw of_paint (false_of (has_texture_hazard (paint_texels span.paint t span.x span.y first k) (palette_of t)
-    (target span.x span.y first) k)
-    (texture_iff (paint_texels span.paint t span.x span.y first k) (palette_of t) (target span.x span.y first) k)
-    (λ h. hazard_free.free first k within (rw of_paint h)))
+apart_free p t is hazard_free of_paint =
+    let span = p.span.now in
+    let texels = paint_texels span.paint t span.x span.y p.first p.k in
+    let to = target span.x span.y p.first in
+    rw of_paint (false_of (has_texture_hazard texels (palette_of t) to p.k) (texture_iff texels (palette_of t) to p.k)
+    (λ h. hazard_free.free p.first p.k is.cut is.few is.within (rw of_paint h)))
 
 -- the cost of a chunk of a span without a hazard
-pub apart_cost : (span : Span) (t : Texture) (first k : ℕ) → IsHazardFree span → first + k ≤ span.n
-    → texture_of span.paint
-    ≡ Some t
-    → chunk_cost span first k ≡ 2 + texel_steps t.page.depth * k
-apart_cost span t first k hazard_free within of_paint = free_cost span t first k of_paint
-    (apart_free span t first k hazard_free within of_paint)
+pub apart_cost : (p : Chunk) (t : Texture) → IsChunk p → IsHazardFree p.span.now
+    → texture_of p.span.now.paint ≡ Some t
+    → chunk_cost p.span.now p.first p.k ≡ 2 + texel_steps t.page.depth * p.k
+apart_cost p t is hazard_free of_paint =
+    free_cost p.span.now t p.first p.k of_paint (apart_free p t is hazard_free of_paint)

@@ -1,5 +1,5 @@
 -- Rows of textured triangles.
-use Rattle.std.proofs.Common.{◌≡◌, ap, ℕ, List, Some}
+use Rattle.std.proofs.Common.{ap, ℕ, List}
 use Rattle.span_lanes.specs.declared.clip_rect.ClipRect.{ClipRect}
 use Rattle.span_lanes.specs.declared.triangle_setup.TriangleSetup.{TriangleSetup}
 use Rattle.span_lanes.specs.declared.span.Span.{Span}
@@ -20,15 +20,12 @@ pub can_draw_free : (b : ClipRect) (span : Span) (m : List ℕ) → IsFreeIn spa
 can_draw_free b span m is can in_clip = record {
   can = can;
   hazard_free = is.hazard_free.hazard_free span is.texture can.span in_clip;
-  clut = rw is.texture (is.hazard_free.palette span in_clip);
 }
 
 -- by the set-up of its triangle
 pub can_draw_row : (setup : TriangleSetup) (span : Span) (m : List ℕ) → IsSetupOf (state_of span) setup
     → CanDrawRow span m → CanDrawSetup setup span m
-can_draw_row setup span m ready row =
-    let texture : texture_of span.paint ≡ Some setup.texture = ap texture_of ready.paint in
-    record { ready = ready; can = row.can; hazard_free = row.hazard_free; palette = rw texture at row.clut }
+can_draw_row setup span m ready row = record { ready = ready; can = row.can; hazard_free = row.hazard_free }
 
 -- and under its colour, if the CLUT can be coloured once
 pub can_color_row : (setup : TriangleSetup) (span : Span) (m : List ℕ) (color : ℕ) (texel_run : TexelRun)
@@ -40,7 +37,6 @@ can_color_row setup span m color texel_run can suits finds = record {
   suits = record {
     hazard_free = can.hazard_free;
     depth = suits.depth;
-    row = can.palette suits.depth;
     even = rw can.ready.brush suits.even;
   };
   finds = finds;

@@ -1,6 +1,6 @@
 -- Clip rectangles.
 use Rattle.std.specs.Prelude.{ℕ, ◌≡◌, ◌+◌, ◌≤◌, ◌<◌, Some}
-use Rattle.span_lanes.specs.Guard.{IsHazardFree, HasClutInOtherRow}
+use Rattle.span_lanes.specs.Guard.{IsHazardFree}
 use Rattle.span_lanes.specs.declared.clip_rect.ClipRect.{ClipRect}
 use Rattle.span_lanes.specs.declared.span.Span.{Span}
 use Rattle.span_lanes.specs.Shade.{IsSpan, texture_of}
@@ -20,8 +20,6 @@ pub record IsInClip (b : ClipRect) (x y n : ℕ) : Type 0 where
   pub top : b.y ≤ y
   pub bottom : y < b.y + b.h
 
--- the spans in a clip rectangle read nothing that they write, and none has the row of the CLUT, if there is one of
--- sixteen entries
+-- the spans in a clip rectangle read nothing that they write
 pub record IsClipHazardFree (b : ClipRect) (t : Texture) : Type 0 where
   pub hazard_free : (s : Span) → texture_of s.paint ≡ Some t → IsSpan s → IsInClip b s.x s.y s.n → IsHazardFree s
-  pub palette : (s : Span) → IsInClip b s.x s.y s.n → HasClutInOtherRow t s.y

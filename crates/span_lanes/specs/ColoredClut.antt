@@ -1,5 +1,5 @@
 -- A palette of sixteen entries, modulated by one colour.
-use Rattle.std.specs.Prelude.{ℕ, ◌≡◌, ◌≢◌, ◌&&◌, not, false, pos, List, slice_index}
+use Rattle.std.specs.Prelude.{ℕ, ◌≡◌, ◌&&◌, not, false, pos, List}
 use Rattle.std.specs.Prelude.{Bool, Option, None, Some, IfSome}
 use Rattle.px_num.specs.Lanes.{EachLane}
 use Rattle.texture_page.specs.Page.{clut_place}
@@ -8,7 +8,7 @@ use Rattle.span_lanes.specs.declared.span.Paint.{Paint}
 use Rattle.span_lanes.specs.declared.span.Span.{Span}
 use Rattle.span_lanes.specs.declared.colored_clut.ColoredClut.{ColoredClut}
 use Rattle.texel_lanes.specs.declared.table.Table.{Table}
-use Rattle.texel_lanes.specs.Texture.{at_cell, clut_row}
+use Rattle.texel_lanes.specs.Texture.{at_cell}
 use Rattle.span_lanes.specs.Guard.{IsHazardFree}
 use Rattle.span_lanes.specs.Shade.{modulated_texel, texture_of}
 use Rattle.texel_lanes.specs.Table.{IsTable, entry_at}
@@ -58,5 +58,4 @@ IsColoredBy (Some s) raw color = (s.raw ≡ raw) × (s.color ≡ color)
 pub record CanCacheClut (span : Span) (t : Texture) : Type 0 where
   pub hazard_free : IsHazardFree span
   pub depth : t.page.depth ≡ 0
-  pub row : clut_row t.clut ≢ span.y
   pub even : (span.brush.dither && not t.raw) ≡ false

@@ -1,7 +1,7 @@
 -- When a chunk of a span reads a cell that it writes (our own rule: every pixel reads video memory as it is when that
 -- pixel is drawn).
 use Rattle.std.specs.Prelude.{ℕ, ◌≡◌, ◌≢◌, ◌<◌, ◌≤◌, ◌⊎◌, ◌+◌, ◌*◌, ◌%◌, ◌==◌, Bool, false, List, Option, None, Some}
-use Rattle.std.specs.Prelude.{if◌then◌else◌, map, slice_index}
+use Rattle.std.specs.Prelude.{IfSome, if◌then◌else◌, map, slice_index}
 use Rattle.std.specs.Option.{MatchOption}
 use Rattle.std.specs.List.{range_with_len}
 use Rattle.px_num.specs.declared.shape.Cell.{Cell}
@@ -25,10 +25,6 @@ paint_texels paint t x y first n = map (paint_texel paint t x y) (range_with_len
 
 abbrev pub clut_strip : ℕ → ℕ → Strip
 clut_strip clut n = record { x = clut % 64 * 16; y = clut_row clut; n = n }
-
--- the palette is in another row than y, if it has sixteen entries
-abbrev pub HasClutInOtherRow : Texture → ℕ → Type 0
-HasClutInOtherRow t y = t.page.depth ≡ 0 → clut_row t.clut ≢ y
 
 -- the palette that a texture reads: sixteen entries at depth 0, 256 at depth 1
 abbrev pub palette_of : Texture → Option Strip
@@ -78,13 +74,23 @@ page_width depth =
     else (if depth == 1 then 128
     else 256)
 
--- n cells of a row from (x, y) on are above or below the rows of a texture's page, or to the left or right of its
--- columns. In the second case these do not wrap.
+-- n columns of a row from x on are none of the `width` columns from `first` on, which wrap at 1024
+abbrev pub LiesOutsideColumns : (first width x n : ℕ) → Type 0
+LiesOutsideColumns first width x n = (first + width ≤ x) ⊎ ((x + n ≤ first) × (first + width ≤ x + 1024))
+
+-- n cells of a row from (x, y) on are above or below the rows of a texture's page, or in none of its columns
 abbrev pub LiesOutsidePage : Texture → ℕ → ℕ → ℕ → Type 0
 LiesOutsidePage t x y n =
-    ((y < t.page.y) ⊎ (t.page.y + 255 < y))
-    ⊎ ((t.page.x + page_width t.page.depth ≤ 1024) × ((x + n ≤ t.page.x) ⊎ (t.page.x + page_width t.page.depth ≤ x)))
+    ((y < t.page.y) ⊎ (t.page.y + 255 < y)) ⊎ LiesOutsideColumns t.page.x (page_width t.page.depth) x n
 
--- no cells of a span have a hazard
+-- n cells of a row from (x, y) on are in another row than a strip, or in none of its columns
+abbrev pub LiesOutsideStrip : Strip → ℕ → ℕ → ℕ → Type 0
+LiesOutsideStrip strip x y n = (strip.y ≢ y) ⊎ LiesOutsideColumns strip.x strip.n x n
+
+-- n cells of a row from (x, y) on are none of a texture's palette, if it has one
+abbrev pub LiesOutsideClut : Texture → ℕ → ℕ → ℕ → Type 0
+LiesOutsideClut t x y n = IfSome (palette_of t) (λ strip. LiesOutsideStrip strip x y n)
+
+-- no chunk of a span has a hazard: up to sixteen cells, from a multiple of sixteen on
 pub record IsHazardFree (span : Span) : Type 0 where
-  pub free : (first n : ℕ) → first + n ≤ span.n → HasHazard span first n → ⊥
+  pub free : (first n : ℕ) → first % 16 ≡ 0 → n ≤ 16 → first + n ≤ span.n → HasHazard span first n → ⊥

@@ -5,6 +5,7 @@ pub mod Cost
 pub mod Draws
 pub mod ClipRect
 pub mod Guard
+pub mod HazardFree
 pub mod Pattern
 pub mod RowColors
 pub mod CachedClut

@@ -1,7 +1,8 @@
 -- Rows of texels in a clip rectangle.
 use Rattle.std.specs.Prelude.{ℕ, List, ◌≡◌, ◌≤◌, ◌+◌, ◌-◌, ◌<◌, ◌/◌, ◌&&◌, not, false}
 use Rattle.span_lanes.specs.Draws.{CanDraw}
-use Rattle.span_lanes.specs.ClipRect.{IsClipHazardFree, IsInClip}
+use Rattle.span_lanes.specs.ClipRect.{IsInClip}
+use Rattle.span_lanes.specs.Guard.{IsHazardFree}
 use Rattle.span_lanes.specs.SpanDrawer.{state_span}
 use Rattle.span_lanes.specs.declared.span.DrawState.{DrawState}
 use Rattle.span_lanes.specs.declared.span.Paint.TheVariants.{TexturedRow}
@@ -10,7 +11,7 @@ use Rattle.span_lanes.specs.declared.clip_rect.ClipRect.{ClipRect}
 use Rattle.span_lanes.specs.declared.span.Run.{Run}
 use Rattle.span_lanes.specs.declared.span.Span.{Span}
 use Rattle.span_lanes.specs.Pattern.{Pattern}
-use Rattle.span_lanes.specs.Shade.{row_u}
+use Rattle.span_lanes.specs.Shade.{IsSpan, row_u}
 use Rattle.span_lanes.specs.declared.texel_rows.TexelRows.{TexelRows}
 
 -- the draw state of row v of the page
@@ -22,13 +23,23 @@ texel_state rows v =
 abbrev pub texel_span : TexelRows → (y v : ℕ) → Span
 texel_span rows y v = state_span (texel_state rows v) rows.clip_rect.x y rows.clip_rect.w
 
+-- the row of the page whose texels row y of the clip rectangle has
+abbrev pub texel_row : TexelRows → (y : ℕ) → ℕ
+texel_row rows y = row_u rows.v rows.falls (y - rows.clip_rect.y)
+
 -- a row of the clip rectangle that can be drawn so in video memory
 pub record CanDrawTexels (rows : TexelRows) (y v : ℕ) (m : List ℕ) : Type 0 where
   pub can : CanDraw (texel_span rows y v) m
   pub in_block : IsInClip rows.clip_rect rows.clip_rect.x y rows.clip_rect.w
+  pub row : v ≡ texel_row rows y
+
+-- no row of the clip rectangle has a hazard
+pub record AreRowsHazardFree (rows : TexelRows) : Type 0 where
+  pub free : (y : ℕ) → rows.clip_rect.y ≤ y → y < rows.clip_rect.y + rows.clip_rect.h
+      → IsSpan (texel_span rows y (texel_row rows y)) → IsHazardFree (texel_span rows y (texel_row rows y))
 
 -- the CLUT of sixteen entries can be modulated once for all rows: their texels are contiguous, in cells that do not
--- wrap, and the clip rectangle has none of these
+-- wrap, and no row has a hazard
 pub record CanCacheRows (rows : TexelRows) : Type 0 where
   pub rises : rows.flip ≡ false
   pub clear : rows.texture.window.mask_x ≡ 0
@@ -36,11 +47,7 @@ pub record CanCacheRows (rows : TexelRows) : Type 0 where
   pub fours : rows.texture.page.x + (rows.u + rows.clip_rect.w) / 4 + 16 ≤ 1024
   pub depth : rows.texture.page.depth ≡ 0
   pub even : (rows.brush.dither && not rows.texture.raw) ≡ false
-  pub hazard_free : IsClipHazardFree rows.clip_rect rows.texture
-
--- the row of the page whose texels row y of the clip rectangle has
-abbrev pub texel_row : TexelRows → (y : ℕ) → ℕ
-texel_row rows y = row_u rows.v rows.falls (y - rows.clip_rect.y)
+  pub hazard_free : AreRowsHazardFree rows
 
 -- what each row of the clip rectangle is drawn with
 abbrev pub rows_pattern : TexelRows → Pattern

@@ -1,5 +1,5 @@
 -- How the rows of a textured triangle are drawn in a clip rectangle that has no cell of the texture.
-use Rattle.std.specs.Prelude.{ℕ, ◌≡◌, ◌≤◌, ◌+◌, ◌/◌, ◌&&◌, not, false, IfSome, List, Some}
+use Rattle.std.specs.Prelude.{ℕ, ◌≡◌, ◌≤◌, ◌+◌, ◌/◌, ◌&&◌, not, false, List, Some}
 use Rattle.edge_walk.specs.Attribute.{IsUnscaled}
 use Rattle.edge_walk.specs.Triangle.{Corners}
 use Rattle.texel_lanes.specs.Texture.{IsTexture}
@@ -17,7 +17,7 @@ use Rattle.span_lanes.specs.declared.span.Paint.{Paint}
 use Rattle.span_lanes.specs.declared.span.Paint.TheVariants.{TexturedTri}
 use Rattle.span_lanes.specs.declared.span.Span.{Span}
 use Rattle.span_lanes.specs.Draws.{CanDraw}
-use Rattle.span_lanes.specs.Guard.{HasClutInOtherRow, IsHazardFree}
+use Rattle.span_lanes.specs.Guard.{IsHazardFree}
 use Rattle.span_lanes.specs.declared.shading.Shading.TheVariants.{OneColor}
 use Rattle.span_lanes.specs.ClipRect.{IsClipHazardFree}
 use Rattle.span_lanes.specs.SpanDrawer.{IsShadingFor, IsShadingOf}
@@ -58,12 +58,10 @@ pub record SuitsMethod (tri : Corners) (t : Texture) (brush : Brush) (b : ClipRe
   pub hazard_free : IsClipHazardFree b t
   pub is_way : IsRowMethod tri t brush method
 
--- a span can be drawn in video memory, reads nothing that it writes, and has another row than the CLUT, if that has
--- sixteen entries
+-- a span can be drawn in video memory and reads nothing that it writes
 pub record CanDrawRow (span : Span) (m : List ℕ) : Type 0 where
   pub can : CanDraw span m
   pub hazard_free : IsHazardFree span
-  pub clut : IfSome (texture_of span.paint) (λ t. HasClutInOtherRow t span.y)
 
 -- no cell of a clip rectangle is one of a paint's texture page or CLUT
 pub record IsFreeIn (paint : Paint) (b : ClipRect) : Type 0 where

@@ -7,7 +7,7 @@ use Rattle.span_lanes.specs.declared.span.Brush.{Brush}
 use Rattle.span_lanes.specs.declared.span.Paint.TheVariants.{TexturedTri}
 use Rattle.span_lanes.specs.declared.span.Span.{Span}
 use Rattle.span_lanes.specs.Draws.{CanDraw}
-use Rattle.span_lanes.specs.Guard.{IsHazardFree, HasClutInOtherRow}
+use Rattle.span_lanes.specs.Guard.{IsHazardFree}
 use Rattle.span_lanes.specs.SpanDrawer.{AreCoordPlanes, IsShadingOf, state_of}
 use Rattle.span_lanes.specs.declared.span.DrawState.{DrawState}
 
@@ -29,10 +29,8 @@ pub record IsSetupFor (corners : Corners) (t : Texture) (with : Brush) (setup : 
   pub brush : setup.brush ≡ with
   pub ready : IsTriangleSetup setup
 
--- a span of a triangle can be drawn in video memory and has no hazard. If the palette has sixteen entries, it is in
--- another row.
+-- a span of a triangle can be drawn in video memory and has no hazard
 pub record CanDrawSetup (setup : TriangleSetup) (span : Span) (m : List ℕ) : Type 0 where
   pub ready : IsSetupOf (state_of span) setup
   pub can : CanDraw span m
   pub hazard_free : IsHazardFree span
-  pub palette : HasClutInOtherRow setup.texture span.y

@@ -1,7 +1,7 @@
 // Spans of four-bit texels whose palette is modulated once.
 ghost use Rattle.std.specs.Prelude.{◌≡◌, IsTrue};
 ghost use Rattle.span_lanes.specs.Draws.{DrawsSpan, at_stage};
-ghost use Rattle.span_lanes.specs.Guard.{IsHazardFree, HasClutInOtherRow};
+ghost use Rattle.span_lanes.specs.Guard.{IsHazardFree};
 ghost use Rattle.span_lanes.specs.CachedClut.{CanColorClut, CanUseCached};
 ghost use Rattle.span_lanes.specs.TexelRun.{IsTexelRun};
 ghost use Rattle.span_lanes.specs.ColoredClut.{IsCached, CanCacheClut};
@@ -18,11 +18,10 @@ use std::sync::ledger::Ledger;
 use vram_store::{Steps, Vram};
 
 // Returns true only if the palette can be modulated once for the whole span: texels have four bits, and pixels are not
-// dithered. The span must have no hazard, and its palette must be in another row.
+// dithered. The span must have no hazard.
 #[inline(always)]
 pub(crate) fn can_cache_clut(span: &Span, texture: &Texture) -> bool
-    requires hazard_free { IsHazardFree span.now }
-    requires palette { HasClutInOtherRow texture.now span.now.y }
+    requires { IsHazardFree span.now }
     ensures { IsTrue result → CanCacheClut span.now texture.now }
 {
     has_undithered_clut16(texture, &span.brush)

@@ -13,7 +13,7 @@ use crate::row_shading::has_undithered_clut16;
 use crate::{Span, Texture};
 use std::simd::prelude::*;
 use std::sync::ledger::Ledger;
-use texel_lanes::{Table, clut_row, entries_at, sixteen_entries, table_of};
+use texel_lanes::{Table, entries_at, sixteen_entries, table_of};
 use vram_store::{Steps, Vram};
 
 // The sixteen entries of a palette, and the same entries modulated by `color`, or unchanged if `raw` is true.
@@ -110,13 +110,13 @@ pub(crate) fn texels_by_index(
     ModulatedTexels { texels, modulated }
 }
 
-// Returns true only if the palette can be modulated once for the whole span. It then has sixteen entries in another
-// row, and the span has no hazard and no dither.
+// Returns true only if the palette can be modulated once for the whole span. It then has sixteen entries, and the span
+// has no hazard and no dither.
 pub(crate) fn suits(span: &Span, row_setup: &RowSetup) -> bool
     requires row_setup { IsRowSetup span.now row_setup.now }
     ensures { IsTrue result → CanCacheClut span.now row_setup.now.texture }
 {
     let texture = &row_setup.texture;
     let even = has_undithered_clut16(texture, &span.brush);
-    row_setup.hazard_free && even && clut_row(texture.clut) != span.y
+    row_setup.hazard_free && even
 }

@@ -1,7 +1,7 @@
 // Methods for contiguous texels.
 use crate::cached_clut::draw_cached;
 use crate::colored_clut::ColoredClut;
-use crate::draw::draw_contiguous_row;
+use crate::contiguous_rows::draw_contiguous_row;
 use crate::opaque::opaque;
 use crate::sampler::FlatTexels;
 use crate::shading::Shading;

@@ -5,7 +5,8 @@
 // not forced. In brackets: a workload of the benchmark.
 //
 // - `Solid`, in `draw_ready` and `draw_solid`: all cells become one halfword, and nothing is read. [triangle flat]
-// - `Untextured`, in `draw_flat`: one colour that is blended, tested or dithered. [rectangle B+F]
+// - `Untextured`, five in `draw_flat`: one colour that is blended, one loop for each mode [rectangle B+F], or that is
+//   tested or dithered.
 // - `Untextured`, two in `draw_gouraud`: three channels that change along the row, opaque or not. [triangle gouraud]
 // - `CachedClut<TexelRun>`, in `CachedClutMethod::draw_row`: a cached palette and opaque pixels. The loop is inlined
 //   into the loop over the rows. [triangle 4-bit modulated]
@@ -18,95 +19,35 @@
 // - `Shaded` of the same three, each opaque or not, in `draw_shaded`: contiguous modulated texels. [rectangle 8-bit
 //   modulated]
 // - `CachedClut<&TexCoords>` and `RowSetup`, by the coordinates of each texel: in `draw_row_by_coords` [rectangle that
-//   is flipped], and in `draw_tri`, if spans in the triangle's clip rectangle may have a hazard.
+//   is flipped], and in `draw_tri`, if spans in the triangle's clip rectangle may have a hazard. In such a rectangle
+//   contiguous rows without a hazard are drawn by the loops above. [triangle 15-bit raw, edge of its page]
 //
 // Rectangles that cache their palette for all rows have four more loops of `CachedClut<TexelRun>`, in
 // `CachedClutRows::draw_row`. [rectangle, sprite 4-bit]
 ghost use Rattle.std.specs.Prelude.{◌≡◌};
-ghost use Rattle.span_lanes.specs.TriangleDrawer.{AreContiguous};
 ghost use Rattle.span_lanes.specs.Draws.{CanDraw, DrawsSpan, at_stage};
-ghost use Rattle.span_lanes.specs.Guard.{HasClutInOtherRow};
-ghost use Rattle.span_lanes.specs.CachedClut.{CanTakeTexels};
 ghost use Rattle.span_lanes.specs.Paints.{row_paint};
-ghost use Rattle.span_lanes.specs.SpanDrawer.{IsShadingFor, state_of};
+ghost use Rattle.span_lanes.specs.SpanDrawer.{state_of};
 ghost use Rattle.span_lanes.specs.PaintSetup.{IsPaintSetup};
-ghost use Rattle.span_lanes.specs.TriangleSetup.{CanDrawSetup, IsSetupOf};
-ghost use Rattle.span_lanes.specs.TexelRun.{IsTexelRun};
 ghost use Rattle.span_lanes.specs.ColoredClut.{IsCached};
 
 use crate::Span;
 use crate::by_coords::draw_by_coords;
-use crate::cached_clut::{can_cache_clut, draw_cached_run};
 use crate::chunk_loop::draw_chunks;
 use crate::colored_clut::ColoredClut;
-use crate::hazard_free::is_hazard_free;
+use crate::contiguous_rows::draw_contiguous;
+use crate::guarded_triangle::{draw_contiguous_tri, draw_tri};
 use crate::paint_setup::PaintSetup;
-use crate::row_setup::{rectangle_row_setup, triangle_row_setup};
-use crate::sampler::{BoundSampler, FlatTexels, sampler_of};
+use crate::row_setup::rectangle_row_setup;
+use crate::sampler::sampler_of;
 use crate::shading::Shading;
 use crate::solid::Solid;
+use crate::texel_hazards::is_run_hazard_free;
 use crate::texel_row::TexelRow;
-use crate::texel_run::{TexelRun, rectangle_row_run, triangle_row_run};
-use crate::texel_run_rows::draw_texel_run;
-use crate::triangle_setup::TriangleSetup;
+use crate::texel_run::rectangle_row_run;
 use crate::untextured::draw_untextured;
 use std::sync::ledger::Ledger;
 use vram_store::{Steps, Vram};
-
-// Draws a span of contiguous texels. It must have no hazard, and its palette must be in another row. If the palette can
-// be modulated once, caches it in `last`; otherwise sets `last` to `None`. Entries in `last` must equal those in video
-// memory.
-#[inline(always)]
-fn draw_contiguous<L: Ledger>(
-    vram: &mut Vram,
-    span: &Span,
-    found: &BoundSampler<TexelRun>,
-    shading: &Shading,
-    last: &mut Option<ColoredClut>,
-    steps: &mut Steps<L>,
-)
-    requires take { CanTakeTexels span.now found.now.texture.now (IsTexelRun span.now found.now.texture.now
-        found.now.sampler) vram.old }
-    requires shading { IsShadingFor span.now.paint shading.now }
-    requires palette { HasClutInOtherRow found.now.texture.now span.now.y }
-    requires last { IsCached span.now.paint vram.old last.old }
-    ensures drawn { DrawsSpan span.now 0 (at_stage vram.old steps.old) (at_stage vram.new steps.new) }
-    ensures last { IsCached span.now.paint vram.new last.new }
-{
-    match shading {
-        Shading::OneColor { color } if can_cache_clut(span, found.texture) => {
-            let texels = FlatTexels {
-                texture: found.texture,
-                color: *color,
-                sampler: found.sampler,
-            };
-            draw_cached_run(vram, span, &texels, last, steps)
-        }
-        _ => {
-            *last = None;
-            draw_texel_run(vram, span, found, shading, steps)
-        }
-    }
-}
-
-// Draws a row of a triangle, whose texels must be contiguous, as [`draw_contiguous`] does.
-#[inline(never)]
-pub(crate) fn draw_contiguous_row<L: Ledger>(
-    vram: &mut Vram,
-    span: &Span,
-    setup: &TriangleSetup,
-    last: &mut Option<ColoredClut>,
-    steps: &mut Steps<L>,
-)
-    requires can { CanDrawSetup setup.now span.now vram.old }
-    requires contiguous { AreContiguous setup.now.tri setup.now.texture }
-    requires last { IsCached span.now.paint vram.old last.old }
-    ensures drawn { DrawsSpan span.now 0 (at_stage vram.old steps.old) (at_stage vram.new steps.new) }
-    ensures last { IsCached span.now.paint vram.new last.new }
-{
-    let found = sampler_of(&setup.texture, triangle_row_run(span, setup));
-    draw_contiguous(vram, span, &found, &setup.shading, last, steps);
-}
 
 // Draws a row of texels by their coordinates. `row` must be the span's paint.
 #[inline(never)]
@@ -144,7 +85,7 @@ pub(crate) fn draw_row<L: Ledger>(
     ensures last { IsCached span.now.paint vram.new last.new }
 {
     match rectangle_row_run(span, row) {
-        Some(texel_run) if is_hazard_free(span, &row.texture) => {
+        Some(texel_run) if is_run_hazard_free(span, &row.texture, texel_run) => {
             let found = sampler_of(&row.texture, texel_run);
             let shading = Shading::OneColor { color: row.color };
             draw_contiguous(vram, span, &found, &shading, last, steps)
@@ -154,25 +95,6 @@ pub(crate) fn draw_row<L: Ledger>(
             draw_row_by_coords(vram, &span, &row, last, steps);
         }
     }
-}
-
-// Draws a row of a textured triangle by the coordinates of its texels. `setup` must be that of the span.
-#[inline(never)]
-fn draw_tri<L: Ledger>(
-    vram: &mut Vram,
-    span: &Span,
-    setup: &TriangleSetup,
-    last: &mut Option<ColoredClut>,
-    steps: &mut Steps<L>,
-)
-    requires can { CanDraw span.now vram.old }
-    requires setup { IsSetupOf (state_of span.now) setup.now }
-    requires last { IsCached span.now.paint vram.old last.old }
-    ensures drawn { DrawsSpan span.now 0 (at_stage vram.old steps.old) (at_stage vram.new steps.new) }
-    ensures last { IsCached span.now.paint vram.new last.new }
-{
-    let row_setup = triangle_row_setup(span, setup);
-    draw_by_coords(vram, span, &row_setup, last, steps);
 }
 
 // Draws a span. `ready` must be the setup of its paint and pixel settings. Entries in `last` must equal those in video
@@ -195,6 +117,7 @@ pub(crate) fn draw_ready<L: Ledger>(
         PaintSetup::Solid { h } => draw_chunks(vram, span, &Solid { h: *h }, steps),
         PaintSetup::Untextured { shading } => draw_untextured(vram, span, shading, steps),
         PaintSetup::Tri { setup } => draw_tri(vram, span, setup, last, steps),
+        PaintSetup::ContiguousTri { setup } => draw_contiguous_tri(vram, span, setup, last, steps),
         PaintSetup::Row { row } => draw_row(vram, span, row, last, steps),
     }
 }

@@ -2,7 +2,6 @@
 ghost use Rattle.span_lanes.specs.declared.row_colors.RowColors.TheVariants.{One};
 ghost use Rattle.span_lanes.specs.Draws.{DrawsSpan, at_stage};
 ghost use Rattle.span_lanes.specs.RowColors.{AreRowColors};
-ghost use Rattle.span_lanes.specs.Guard.{HasClutInOtherRow};
 ghost use Rattle.span_lanes.specs.CachedClut.{CanTakeTexels};
 ghost use Rattle.span_lanes.specs.AttributeRamps.{AreCoordRampsOf};
 ghost use Rattle.span_lanes.specs.ColoredClut.{IsCached};
@@ -43,9 +42,8 @@ fn draw_shaded<L: Ledger>(
     draw_chunks(vram, span, &shaded, steps);
 }
 
-// Draws a row of a triangle of one colour. It must have no hazard, and its palette must be in another row. If the
-// palette can be modulated once, caches it in `last`; otherwise sets `last` to `None`. Entries in `last` must equal
-// those in video memory.
+// Draws a row of a triangle of one colour. It must have no hazard. If the palette can be modulated once, caches it in
+// `last`; otherwise sets `last` to `None`. Entries in `last` must equal those in video memory.
 #[inline(never)]
 pub(crate) fn draw_flat_texels<L: Ledger>(
     vram: &mut Vram,
@@ -56,7 +54,6 @@ pub(crate) fn draw_flat_texels<L: Ledger>(
 )
     requires take { CanTakeTexels span.now texels.now.texture.now
         (AreCoordRampsOf span.now.paint texels.now.sampler.now) vram.old }
-    requires palette { HasClutInOtherRow texels.now.texture.now span.now.y }
     requires hue { AreRowColors span.now.paint span.now.x span.now.y span.now.n (One texels.now.color) }
     requires last { IsCached span.now.paint vram.old last.old }
     ensures drawn { DrawsSpan span.now 0 (at_stage vram.old steps.old) (at_stage vram.new steps.new) }

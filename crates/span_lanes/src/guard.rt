@@ -1,5 +1,5 @@
 // Hazards of textured chunks.
-ghost use Rattle.std.specs.Prelude.{◌≡◌, ◌≤◌, ◌+◌, ◌↔◌, IsTrue};
+ghost use Rattle.std.specs.Prelude.{◌≡◌, ◌≤◌, ◌+◌, ◌↔◌, IfSome, IsTrue};
 ghost use Rattle.overlap_guard.specs.Hazard.{HasTextureHazard, has_texture_hazard};
 ghost use Rattle.texel_lanes.specs.Texture.{IsTexture};
 ghost use Rattle.texel_lanes.specs.Texels.{AreCoordinates};
@@ -22,8 +22,10 @@ pub(crate) fn texture_of(paint: &Paint) -> Option<Texture>
     }
 }
 
-fn palette(texture: &Texture) -> Option<Strip>
-    ensures { result ≡ palette_of texture.now }
+// Returns the cells of the texture's palette, if it has one. Their columns wrap at 1024.
+pub(crate) fn palette(texture: &Texture) -> Option<Strip>
+    ensures value { result ≡ palette_of texture.now }
+    ensures fits { IfSome result (λ strip. (strip.x ≤ 1024) × (strip.n ≤ 1024)) }
 {
     match texture.page.depth {
         0 => Some(strip_of(texture.clut, 16)),
@@ -33,7 +35,8 @@ fn palette(texture: &Texture) -> Option<Strip>
 }
 
 fn strip_of(clut: u16, n: u16) -> Strip
-    ensures { result ≡ clut_strip clut n }
+    ensures value { result ≡ clut_strip clut n }
+    ensures fits { result.x ≤ 1024 }
 {
     Strip {
         x: clut % 64 * 16,

@@ -1,12 +1,14 @@
 // Setups of paints.
 ghost use Rattle.span_lanes.specs.PaintSetup.{IsPaintSetup};
-ghost use Rattle.span_lanes.specs.declared.span.Paint.TheVariants.{Flat};
+ghost use Rattle.span_lanes.specs.declared.span.Paint.TheVariants.{Flat, TexturedTri};
 
+use crate::row_methods::is_contiguous;
 use crate::shading::{Shading, triangle_shading};
 use crate::solid::solid_color;
 use crate::texel_row::TexelRow;
 use crate::triangle_setup::{TriangleSetup, triangle_setup_of};
-use crate::{Brush, Paint};
+use crate::{Brush, Paint, Texture};
+use edge_walk::Tri;
 
 // What all spans with one paint and the same pixel settings share.
 #[derive(Clone, Copy)]
@@ -17,6 +19,8 @@ pub(crate) enum PaintSetup {
     Untextured { shading: Shading },
     // a textured triangle
     Tri { setup: TriangleSetup },
+    // a textured triangle whose texels are contiguous in each row
+    ContiguousTri { setup: TriangleSetup },
     // a row of texels
     Row { row: TexelRow },
 }
@@ -33,6 +37,18 @@ fn flat_setup(color: u32, brush: &Brush) -> PaintSetup
     }
 }
 
+// Returns the setup of a textured triangle.
+fn tri_setup(tri: &Tri, texture: &Texture, brush: &Brush) -> PaintSetup
+    ensures { IsPaintSetup (record { paint = TexturedTri tri.now texture.now; brush = brush.now }) result }
+{
+    let setup = triangle_setup_of(tri, texture, brush);
+    if is_contiguous(tri, texture) {
+        PaintSetup::ContiguousTri { setup }
+    } else {
+        PaintSetup::Tri { setup }
+    }
+}
+
 // Returns the setup of a paint with these pixel settings.
 pub(crate) fn paint_setup_of(paint: &Paint, brush: &Brush) -> PaintSetup
     ensures { IsPaintSetup (record { paint = paint.now; brush = brush.now }) result }
@@ -42,9 +58,7 @@ pub(crate) fn paint_setup_of(paint: &Paint, brush: &Brush) -> PaintSetup
         Paint::Shaded { tri } => PaintSetup::Untextured {
             shading: triangle_shading(tri, &tri.area_divisor()),
         },
-        Paint::TexturedTri { tri, texture } => PaintSetup::Tri {
-            setup: triangle_setup_of(tri, texture, brush),
-        },
+        Paint::TexturedTri { tri, texture } => tri_setup(tri, texture, brush),
         Paint::TexturedRow {
             color,
             texture,

@@ -126,7 +126,7 @@ impl TexelRowsMethod for AnyRows {
     }
 }
 
-/// Contiguous texels of four bits that the clip rectangle has no cell of: the CLUT is coloured once.
+/// Contiguous texels of four bits, each row reading nothing that it writes: the CLUT is coloured once.
 #[derive(Drop)]
 pub struct CachedClutRows {
     // the CLUT, and what the colour makes of it; at first it was not read

@@ -1,14 +1,13 @@
 // How the rows of a textured triangle are drawn.
 ghost use Rattle.std.specs.Prelude.{◌≡◌, IfSome, IsTrue, false};
 ghost use Rattle.texel_lanes.specs.Texture.{IsTexture};
-ghost use Rattle.span_lanes.specs.TriangleDrawer.{AreContiguous, SuitsMethod};
+ghost use Rattle.span_lanes.specs.TriangleDrawer.{AreContiguous, DoesNotWrap, SuitsMethod};
 ghost use Rattle.span_lanes.specs.ClipRect.{IsClipRect};
 
 use crate::hazard_free::is_clip_hazard_free;
 use crate::opaque::is_opaque;
 use crate::row_shading::has_undithered_clut16;
 use crate::shading::one_color;
-use crate::texel_run::does_not_wrap;
 use crate::{Brush, ClipRect, Texture};
 use edge_walk::Tri;
 
@@ -26,18 +25,30 @@ pub enum RowMethod {
     GouraudTexels,
 }
 
-// Whether the texels of each row are known to be contiguous.
+// Returns whether the cells of the texels of any column do not wrap. At depths 0 and 1, the sixteen cells after the page
+// must not wrap either.
 #[inline(always)]
-fn is_contiguous(tri: &Tri, texture: &Texture) -> bool
-    requires { IsTexture texture.now }
-    ensures { IsTrue result → AreContiguous tri.now texture.now }
+fn never_wraps(texture: &Texture) -> bool
+    ensures { IsTrue result → DoesNotWrap texture.now }
 {
-    let room = does_not_wrap(texture, 0, 256);
+    match texture.page.depth {
+        0 => texture.page.x <= 1024 - (256 / 4 + 16),
+        1 => texture.page.x <= 1024 - (256 / 2 + 16),
+        _ => texture.page.x <= 1024 - 256,
+    }
+}
+
+// Returns whether the texels of each row are known to be contiguous.
+#[inline(always)]
+pub(crate) fn is_contiguous(tri: &Tri, texture: &Texture) -> bool
+    ensures { IsTrue result → IsTexture texture.now → AreContiguous tri.now texture.now }
+{
+    let room = never_wraps(texture);
     tri.is_unscaled() && texture.window.mask_x == 0 && room
 }
 
 /// Returns how the rows of a triangle are drawn in a clip rectangle. `None` if that may have a cell of the texture page
-/// or the CLUT: then [`SpanDrawer`](crate::SpanDrawer) draws them.
+/// or the CLUT: then [`SpanDrawer`](crate::SpanDrawer) draws them, and tests each row.
 #[inline(always)]
 pub fn row_method(
     tri: &Tri,

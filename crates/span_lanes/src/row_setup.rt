@@ -1,6 +1,7 @@
 // What all chunks of a textured span share.
-ghost use Rattle.std.specs.Prelude.{◌≡◌, Some};
+ghost use Rattle.std.specs.Prelude.{◌≡◌, Some, IsTrue};
 ghost use Rattle.span_lanes.specs.Shade.{IsSpan, texture_of};
+ghost use Rattle.span_lanes.specs.Guard.{IsHazardFree};
 ghost use Rattle.span_lanes.specs.RowColors.{AreRowColors};
 ghost use Rattle.span_lanes.specs.Paints.{row_paint};
 ghost use Rattle.span_lanes.specs.SpanDrawer.{state_of};
@@ -12,6 +13,7 @@ use crate::hazard_free::is_hazard_free;
 use crate::row_colors::{RowColors, row_colors_of};
 use crate::row_shading::{RowShading, row_shading_of};
 use crate::tex_coords::{CoordAlongRow, TexCoords, triangle_tex_coords};
+use crate::texel_hazards::is_row_hazard_free;
 use crate::texel_row::TexelRow;
 use crate::triangle_setup::TriangleSetup;
 use crate::{Span, Texture};
@@ -31,9 +33,11 @@ fn row_setup_with(
     texture: &Texture,
     row_colors: RowColors,
     coords: TexCoords,
+    hazard_free: bool,
 ) -> RowSetup
     requires span { IsSpan span.now }
     requires texture { texture_of span.now.paint ≡ Some texture.now }
+    requires hazard_free { IsTrue hazard_free → IsHazardFree span.now }
     requires row_colors { AreRowColors span.now.paint span.now.x span.now.y span.now.n row_colors }
     requires coords { AreTexCoords span.now.paint span.now.x span.now.y span.now.n coords }
     ensures { IsRowSetup span.now result }
@@ -42,7 +46,7 @@ fn row_setup_with(
         texture: *texture,
         shading: row_shading_of(span, texture, row_colors),
         coords,
-        hazard_free: is_hazard_free(span, texture),
+        hazard_free,
     }
 }
 
@@ -65,6 +69,7 @@ pub(crate) fn rectangle_row_setup(span: &Span, row: &TexelRow) -> RowSetup
         &row.texture,
         RowColors::One { color: row.color },
         coords,
+        is_row_hazard_free(span, row),
     )
 }
 
@@ -77,5 +82,6 @@ pub(crate) fn triangle_row_setup(span: &Span, setup: &TriangleSetup) -> RowSetup
 {
     let row_colors = row_colors_of(span, &setup.shading);
     let coords = triangle_tex_coords(&setup.coord_planes, span.x, span.y);
-    row_setup_with(span, &setup.texture, row_colors, coords)
+    let hazard_free = is_hazard_free(span, &setup.texture);
+    row_setup_with(span, &setup.texture, row_colors, coords, hazard_free)
 }

@@ -5,9 +5,9 @@ ghost use Rattle.span_lanes.specs.ClipRect.{IsClipRect};
 ghost use Rattle.span_lanes.specs.TexelRun.{IsTexelRun};
 ghost use Rattle.span_lanes.specs.TexelRows.{IsRowOf, CanCacheRows, texel_row, texel_span};
 
-use crate::hazard_free::is_clip_hazard_free;
 use crate::opaque::{is_opaque, opaque_brush};
 use crate::row_shading::has_undithered_clut16;
+use crate::rows_hazard_free::are_rows_hazard_free;
 use crate::texel_row::{TexelRow, row_u};
 use crate::texel_run::{TexelRun, does_not_wrap, is_unwindowed, run_at_coords};
 use crate::texel_run_rows::with_raw;
@@ -91,7 +91,7 @@ impl TexelRows {
     }
 
     /// Returns whether the texels of each row are contiguous, their CLUT has sixteen entries and can be modulated once,
-    /// and the clip rectangle has none of their cells. [`CachedClutRows`](crate::CachedClutRows) draws such rows, and
+    /// and no row reads what it writes. [`CachedClutRows`](crate::CachedClutRows) draws such rows, and
     /// [`AnyRows`](crate::AnyRows) all.
     pub fn can_cache_clut(&self) -> bool
         requires clip_rect { IsClipRect 1024 self.now.clip_rect }
@@ -105,8 +105,7 @@ impl TexelRows {
         {
             return false;
         }
-        does_not_wrap(&self.texture, self.u as u16, n)
-            && is_clip_hazard_free(&self.clip_rect, &self.texture)
+        does_not_wrap(&self.texture, self.u as u16, n) && are_rows_hazard_free(self)
     }
 
     /// Returns these rows. The compiler then knows whether they are raw, and makes a loop for that case.

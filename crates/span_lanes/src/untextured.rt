@@ -9,8 +9,9 @@ ghost use Rattle.span_lanes.specs.RowColors.{AreRowColors};
 
 use crate::Span;
 use crate::chunk::Chunk;
-use crate::chunk_loop::{ChunkDrawer, draw_by_brush, draw_chunks};
+use crate::chunk_loop::{ChunkDrawer, draw_by_brush};
 use crate::color_lanes::{DitherLanes, dither_lanes_of};
+use crate::mode_loops::draw_by_mode;
 use crate::row_colors::{RowColors, row_colors_of};
 use crate::shading::Shading;
 use crate::store::store_chunk;
@@ -63,7 +64,7 @@ fn draw_flat<L: Ledger>(vram: &mut Vram, span: &Span, color: u32, steps: &mut St
     requires row_colors { AreRowColors span.now.paint span.now.x span.now.y span.now.n (One color) }
     ensures drawn { DrawsSpan span.now 0 (at_stage vram.old steps.old) (at_stage vram.new steps.new) }
 {
-    draw_chunks(
+    draw_by_mode(
         vram,
         span,
         &untextured_by(span, RowColors::One { color }),

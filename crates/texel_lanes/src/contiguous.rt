@@ -20,9 +20,9 @@ use std::simd::prelude::*;
 use std::sync::ledger::Ledger;
 use vram_store::{Steps, Vram};
 
-// Returns the column of a texel's cell, counted from the page's first cell. `u` is the texel's column.
+/// Returns the column of a texel's cell, counted from the page's first cell. `u` is the texel's column.
 #[inline(always)]
-fn column_of(depth: u8, u: u16) -> u16
+pub fn column_of(depth: u8, u: u16) -> u16
     ensures value { result ≡ column depth u }
     ensures low { result ≤ u }
 {

@@ -21,7 +21,7 @@ mod texel_cells;
 mod texture;
 
 pub use clut::{clut_row, gather_entries, sixteen_entries};
-pub use contiguous::{indexes_of, sixteen_indexes, sixteen_octets};
+pub use contiguous::{column_of, indexes_of, sixteen_indexes, sixteen_octets};
 pub use coordinates::Coordinates;
 pub use gather::{AllAtOnce, Gather, HalfAtOnce, OneByOne};
 pub use read::{read_few, read_texels};

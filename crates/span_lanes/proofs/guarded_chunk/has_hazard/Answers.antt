@@ -24,13 +24,12 @@ returns-then-not-row_setup-clause-value c =
 
 pub returns-else-not-row_setup-clause-free : goal.returns-else-not-row_setup-clause-free
 returns-else-not-row_setup-clause-free c none hazard =
+    let is = c.requires.chunk in
     (c.requires.row_setup.hazard_free (cc c.if-not-row_setup.false)).free c.args.chunk.now.first c.args.chunk.now.k
-    c.requires.chunk.within hazard
+    is.cut is.few is.within hazard
 
 pub returns-else-not-row_setup-clause-value : goal.returns-else-not-row_setup-clause-value
 returns-else-not-row_setup-clause-value c =
     rw c.if-not-row_setup.false
-    (sym (apart_free c.args.chunk.now.span.now c.args.row_setup.now.texture c.args.chunk.now.first
-    c.args.chunk.now.k
-    (c.requires.row_setup.hazard_free (cc c.if-not-row_setup.false)) c.requires.chunk.within
-    c.requires.row_setup.texture))
+    (sym (apart_free c.args.chunk.now c.args.row_setup.now.texture c.requires.chunk
+    (c.requires.row_setup.hazard_free (cc c.if-not-row_setup.false)) c.requires.row_setup.texture))

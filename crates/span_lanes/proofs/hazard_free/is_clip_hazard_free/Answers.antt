@@ -1,15 +1,11 @@
-use Rattle.std.proofs.Common.{inl, inr, arith}
-use Rattle.span_lanes.proofs.HazardFreeLemmas.{span_apart}
+use Rattle.span_lanes.proofs.HazardFreeLemmas.{chunks_free, page_apart}
 use Rattle.span_lanes.proofs.hazard_free.is_clip_hazard_free.Goals as goal
 
 pub returns-then-is_clip_outside_page : goal.returns-then-is_clip_outside_page
 returns-then-is_clip_outside_page c off = record {
   hazard_free = λ s of_paint is within.
-      span_apart s c.args.texture.now is c.requires.texture of_paint
-      (c.is_clip_outside_page.ensures c.if-is_clip_outside_page.true s.x s.y s.n within)
-      (c.is_clip_off_clut.ensures off s.x s.y s.n within);
-  palette = λ s within four same. elim (c.is_clip_off_clut.ensures off s.x s.y s.n within) [
-    | inl deep ↦ omega (arith, deep, four)
-    | inr other ↦ other same
-  ];
+      let t = c.args.texture.now in
+      let outside = c.is_clip_outside_page.ensures c.if-is_clip_outside_page.true s.x s.y s.n within in
+      let texels = page_apart s t is c.requires.texture outside in
+      chunks_free s t is of_paint texels (c.is_clip_off_clut.ensures off s.x s.y s.n within);
 }

@@ -1,9 +1,6 @@
 use Rattle.span_lanes.proofs.ShadingLemmas.{one_hues}
 use Rattle.span_lanes.proofs.coord_methods.FlatTexelsMethodTexelMethod.draw_row.Goals as goal
 
-pub draw_flat_texels-requires-clause-palette : goal.draw_flat_texels-requires-clause-palette
-draw_flat_texels-requires-clause-palette g c = rw c.requires.ready.0.texture at c.requires.row.clut
-
 pub draw_flat_texels-requires-clause-hue : goal.draw_flat_texels-requires-clause-hue
 draw_flat_texels-requires-clause-hue g c =
     let span = c.args.span.now in

@@ -1,5 +1,4 @@
 use Rattle.std.proofs.Common.{refl}
-use Rattle.span_lanes.specs.TexelRows.{texel_span}
 use Rattle.span_lanes.proofs.rectangle_drawer.CachedClutRowsTexelRowsMethod.draw_row.Goals as goal
 
 pub draw_cached-requires-clause-can : goal.draw_cached-requires-clause-can
@@ -11,9 +10,9 @@ draw_cached-requires-clause-can g c =
     (record {
       sample = record { can = asked.can; texture = refl };
       suits = record {
-        hazard_free = keeps.hazard_free.hazard_free _ refl asked.can.span asked.in_block;
+        hazard_free = rw asked.row (keeps.hazard_free.free c.args.y asked.in_block.top asked.in_block.bottom
+            (rw asked.row at asked.can.span));
         depth = keeps.depth;
-        row = keeps.hazard_free.palette (texel_span rows c.args.y c.args.v) asked.in_block keeps.depth;
         even = keeps.even;
       };
       finds = c.texel_run-texel_run.ensures c.args.y;

@@ -1,11 +1,6 @@
-use Rattle.std.proofs.Common.{◌≡◌, sym, subst, arith}
-use Rattle.span_lanes.specs.Cells.{Stage}
+use Rattle.std.proofs.Common.{subst, arith}
 use Rattle.span_lanes.specs.Draws.{CanDraw}
-use Rattle.span_lanes.specs.Pattern.{run_span}
-use Rattle.span_lanes.specs.SpanDrawer.{DrawsCells}
-use Rattle.span_lanes.specs.TexelRows.{rows_pattern, texel_span}
 use Rattle.span_lanes.specs.declared.span.Span.{Span}
-use Rattle.span_lanes.proofs.ChunkDrawLemmas.{draws_cells}
 use Rattle.span_lanes.proofs.TexelRowLemmas.{row_is, row_drawn}
 use Rattle.span_lanes.proofs.rectangle_drawer.RectangleDrawerRowDrawer.draw.Goals as goal
 
@@ -26,6 +21,7 @@ draw_row-requires-clause-can g c =
     record {
       can = subst (λ (s : Span). CanDraw s c.args.vram.now) is c.requires.can;
       in_block = record { left = omega arith; right = omega arith; top = whole.top; bottom = whole.bottom };
+      row = c.texel_row-v.ensures;
     }
 
 pub returns-clause-drawn : goal.returns-clause-drawn

@@ -1,14 +1,14 @@
 use Rattle.std.proofs.Common.{◌≡◌, ◌+◌, ◌&&◌, not, ℕ, ◌<◌, ◌∙◌, arith}
 use Rattle.span_lanes.proofs.ColorLemmas.{no_shift}
-use Rattle.span_lanes.proofs.ColoredClutLemmas.{swatches_kept}
+use Rattle.span_lanes.proofs.ColoredClutLemmas.{clut_missed, swatches_kept}
 use Rattle.span_lanes.proofs.PlanLemmas.{apart_cost}
 use Rattle.span_lanes.proofs.ChunkDrawLemmas.{sample_stays}
 use Rattle.span_lanes.proofs.texels.CachedClutChunkDrawer.draw_chunk.Goals as goal
 
 pub draw_texels-requires-clause-free : goal.draw_texels-requires-clause-free
 draw_texels-requires-clause-free g c =
-    let chunk = c.args.chunk.now in
-    c.requires.serves.can.suits.hazard_free.free chunk.first chunk.k c.requires.chunk.within
+    let is = c.requires.chunk in
+    c.requires.serves.can.suits.hazard_free.free c.args.chunk.now.first c.args.chunk.now.k is.cut is.few is.within
 
 pub draw_texels-requires-clause-drawn : goal.draw_texels-requires-clause-drawn
 draw_texels-requires-clause-drawn g c =
@@ -39,7 +39,7 @@ returns-clause-drawn g c =
     let chunk = c.args.chunk.now in
     let suits = c.requires.serves.can.suits in
     let cost = (rw suits.depth at
-    (apart_cost chunk.span.now c.args.self.now.texture chunk.first chunk.k suits.hazard_free c.requires.chunk.within
+    (apart_cost chunk c.args.self.now.texture c.requires.chunk suits.hazard_free
     c.requires.serves.can.sample.texture)) in
     record {
       cells = c.draw_texels.ensures.cells;
@@ -50,7 +50,10 @@ returns-clause-drawn g c =
 pub returns-clause-serves : goal.returns-clause-serves
 returns-clause-serves g c =
     let is = c.requires.serves in
+    let part = c.requires.chunk in
     let chunk = c.args.chunk.now in
+    let none = clut_missed chunk.span.now c.args.self.now.texture chunk.first chunk.k is.can.sample.texture
+    is.can.suits.depth (is.can.suits.hazard_free.free chunk.first chunk.k part.cut part.few part.within) in
     record {
       can = record {
         sample = sample_stays is.can.sample c.draw_texels.ensures.others.count;
@@ -61,5 +64,5 @@ returns-clause-serves g c =
       raw = is.raw;
       colored = is.colored;
       entries = swatches_kept c.args.self.now.texture (chunk.span.now.x + chunk.first) chunk.span.now.y chunk.k _ _ _
-          c.draw_texels.ensures.others (omega arith) is.can.suits.row is.entries;
+          c.draw_texels.ensures.others (omega arith) none is.entries;
     }

@@ -6,8 +6,8 @@ use Rattle.span_lanes.proofs.texels.RawChunkDrawer.draw_chunk.Goals as goal
 
 pub draw_texels-requires-clause-free : goal.draw_texels-requires-clause-free
 draw_texels-requires-clause-free g c =
-    let chunk = c.args.chunk.now in
-    c.requires.serves.0.hazard_free.free chunk.first chunk.k c.requires.chunk.within
+    let is = c.requires.chunk in
+    c.requires.serves.0.hazard_free.free c.args.chunk.now.first c.args.chunk.now.k is.cut is.few is.within
 
 pub draw_texels-requires-clause-drawn : goal.draw_texels-requires-clause-drawn
 unfolding modulated_texel
@@ -20,8 +20,8 @@ draw_texels-requires-clause-drawn g c = record {
 pub returns-clause-drawn : goal.returns-clause-drawn
 returns-clause-drawn g c =
     let chunk = c.args.chunk.now in
-    let cost = (apart_cost chunk.span.now c.args.self.now.texture chunk.first chunk.k c.requires.serves.0.hazard_free
-    c.requires.chunk.within c.requires.serves.0.sample.texture) in
+    let is = c.requires.serves.0 in
+    let cost = apart_cost chunk c.args.self.now.texture c.requires.chunk is.hazard_free is.sample.texture in
     record {
       cells = c.draw_texels.ensures.cells;
       long = c.draw_texels.ensures.others.count;
