@@ -32,6 +32,12 @@ pub scaled_is : (step : ℤ) (r : ℕ) → IsScaled (scaled step r) step r (2 ^ 
 unfolding scaled
 scaled_is step r = scaled_by (int_lt step (pos 0)) step r refl
 
+-- a step times r, from the step modulo 2^64
+pub wrapped_is : (falls : Bool) (step size r : ℕ) → (falls ≡ true → step + size ≡ 2 ^ 64) → (falls ≡ false → step ≡ size)
+    → step * r % 2 ^ 64 ≡ wrapped falls (size * r % 2 ^ 64)
+wrapped_is true step size r down_ up_ = let product = ap (λ z. z * r) (down_ refl) in omega (arith, product)
+wrapped_is false step size r down_ up_ = ap (λ z. z * r % 2 ^ 64) (up_ refl)
+
 -- two numbers that differ by multiples of m, one of them below m
 same_rest : (u s k l m : ℕ) → s < m → u + k * m ≡ s + l * m → u % m ≡ s
 same_rest u s k l m lt e = sym (add-mul-mod_self_right u k m) ∙ ap (λ z. z % m) e ∙ add-mul-mod_self_right s l m

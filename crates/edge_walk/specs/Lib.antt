@@ -1,4 +1,5 @@
 pub mod Attribute
+pub mod AttributeSetup
 pub mod Divisor
 pub mod Extent
 pub mod Held

@@ -1,7 +1,7 @@
 // Colours and texture coordinates of the cells of a triangle.
+use crate::attribute_setup::AttributeSetup;
 use crate::divisor::Divisor;
 use crate::line::keep_first;
-use crate::plane::Plane;
 use crate::triangle::Tri;
 use std::simd::prelude::*;
 
@@ -10,8 +10,8 @@ impl Tri {
     ghost use Rattle.std.specs.Prelude.{ℤ, pos, ◌+ℤ◌};
     ghost use Rattle.px_num.specs.Lanes.{EachLane};
     ghost use Rattle.edge_walk.specs.Attribute.{attribute_at, HasColor, IsUnscaled};
+    ghost use Rattle.edge_walk.specs.AttributeSetup.{IsAttributeSetup};
     ghost use Rattle.edge_walk.specs.Held.{divisor_for};
-    ghost use Rattle.edge_walk.specs.Plane.{IsPlane};
     ghost use Rattle.edge_walk.specs.Triangle.{is_inside};
 
     /// Returns [`attr_at`](Tri::attr_at) of the `n` cells from (`x`, `y`) to the right in the first lanes, and 0 in
@@ -26,7 +26,7 @@ impl Tri {
         ensures bytes { EachLane (λ j. slice_index result j ≤ 255) }
         ensures rest { (j : ℕ) → n ≤ j → slice_index result j ≡ 0 }
     {
-        let plane = self.plane(which, &self.area_divisor());
+        let plane = self.attribute_setup(&self.area_divisor()).plane(which);
         keep_first(plane.row_line(x, y).lanes(0), n)
     }
 
@@ -37,16 +37,17 @@ impl Tri {
         Divisor::new(self.area)
     }
 
-    /// Returns attribute `which` (0 to 4: red, green, blue, u, v) over the whole triangle. `divisor` must be
+    /// Returns what the planes of this triangle's attributes are computed from. `divisor` must be
     /// [`area_divisor`](Tri::area_divisor) of this triangle.
     #[inline(always)]
-    pub fn plane(&self, which: u8, divisor: &Divisor) -> Plane
-        requires which { which ≤ 4 }
-        requires divisor { divisor.now ≡ divisor_for self.now }
-        ensures { IsPlane self.now which result }
+    pub fn attribute_setup(&self, divisor: &Divisor) -> AttributeSetup
+        requires { divisor.now ≡ divisor_for self.now }
+        ensures { IsAttributeSetup self.now result }
     {
-        let t = self.oriented_triangle();
-        Plane::of(&t, which, divisor)
+        AttributeSetup {
+            t: self.oriented_triangle(),
+            divisor: *divisor,
+        }
     }
 
     /// Returns the 24-bit colour of all cells inside if the three vertices have the same colour, else `None`.

@@ -5,6 +5,7 @@
 //! only if it goes up, or level to the right. So two triangles with a common edge draw none of its cells twice.
 #![tactic(auto)]
 
+mod attribute_setup;
 mod attributes;
 mod divisor;
 mod edge;
@@ -21,6 +22,7 @@ mod steps;
 mod triangle;
 mod weights;
 
+pub use attribute_setup::AttributeSetup;
 pub use divisor::Divisor;
 pub use line::RowLine;
 pub use plane::Plane;

@@ -1,7 +1,7 @@
 // An attribute along a row.
 ghost use Rattle.std.specs.Prelude.{◌≡◌, ◌+◌, ◌*◌, ◌/◌, ◌%◌, ◌^◌, ◌≤◌, ◌<◌, length, slice_index};
 ghost use Rattle.px_num.specs.Lanes.{EachLane};
-ghost use Rattle.edge_walk.specs.Line.{AreFirst, wrapped, scaled, line_value};
+ghost use Rattle.edge_walk.specs.Line.{AreFirst, scaled, line_value};
 
 use crate::ramp::{around, ramp_of};
 use std::simd::prelude::*;
@@ -14,21 +14,13 @@ pub struct RowLine {
     pub(crate) step: u64,
 }
 
-// Returns `size`, or 2^64 minus `size` (as a negative number wraps) if `falls`.
-#[inline(always)]
-fn wrapped(falls: bool, size: u64) -> u64
-    ensures { result ≡ wrapped falls size }
-{
-    if falls { 0u64.wrapping_sub(size) } else { size }
-}
-
 // Returns `step` times the reciprocal `by` modulo 2^64.
 #[inline(always)]
 #[tactic(auto, unfolding(crate::specs::Line::scaled))]
 pub(crate) fn scaled(step: i64, by: u64) -> u64
     ensures { result ≡ scaled step by }
 {
-    wrapped(step < 0, step.unsigned_abs().wrapping_mul(by))
+    step.cast_unsigned().wrapping_mul(by)
 }
 
 impl RowLine {

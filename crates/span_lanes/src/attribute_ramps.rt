@@ -1,6 +1,8 @@
 // A triangle's attributes with the values that all rows share, computed once.
 ghost use Rattle.std.specs.Prelude.{◌≡◌, ◌+◌};
+ghost use Rattle.edge_walk.specs.AttributeSetup.{IsAttributeSetup};
 ghost use Rattle.edge_walk.specs.Held.{divisor_for};
+ghost use Rattle.edge_walk.specs.Triangle.{Corners};
 ghost use Rattle.span_lanes.specs.AttributeRamps.{AreColorsOf, AreColorRamps, AreCoordRamps, AreCoordRampsOf};
 
 use crate::Texture;
@@ -9,7 +11,7 @@ use crate::color_lanes::ColorLanes;
 use crate::color_source::ColorSource;
 use crate::coord_source::{CoordSource, indexes_by_coords, texels_by_coords};
 use crate::sampler::{IndexSampler, Sampler};
-use edge_walk::{Divisor, PlaneRamp, Tri};
+use edge_walk::{AttributeSetup, Divisor, PlaneRamp, Tri};
 use std::simd::prelude::*;
 use std::sync::ledger::Ledger;
 use texel_lanes::Coordinates;
@@ -37,29 +39,36 @@ pub(crate) struct AttributeRamps {
     pub(crate) colors: ColorRamps,
 }
 
+// Returns the texel coordinates of the triangle of a setup.
+#[inline(always)]
+fn coord_ramps_with(setup: &AttributeSetup) -> CoordRamps
+    ensures { (tri : Corners) → IsAttributeSetup tri setup.now → AreCoordRamps tri result }
+{
+    CoordRamps {
+        u: PlaneRamp::of(&setup.plane(3)),
+        v: PlaneRamp::of(&setup.plane(4)),
+    }
+}
+
+// Returns the colour channels of the triangle of a setup.
+#[inline(always)]
+fn color_ramps_with(setup: &AttributeSetup) -> ColorRamps
+    ensures { (tri : Corners) → IsAttributeSetup tri setup.now → AreColorRamps tri result }
+{
+    ColorRamps {
+        red: PlaneRamp::of(&setup.plane(0)),
+        green: PlaneRamp::of(&setup.plane(1)),
+        blue: PlaneRamp::of(&setup.plane(2)),
+    }
+}
+
 // Returns a triangle's texel coordinates. `divisor` must be `tri.area_divisor()`.
 #[inline(always)]
 pub(crate) fn coord_ramps_of(tri: &Tri, divisor: &Divisor) -> CoordRamps
     requires divisor { divisor.now ≡ divisor_for tri.now }
     ensures { AreCoordRamps tri.now result }
 {
-    CoordRamps {
-        u: PlaneRamp::of(&tri.plane(3, divisor)),
-        v: PlaneRamp::of(&tri.plane(4, divisor)),
-    }
-}
-
-// Returns a triangle's colour channels. `divisor` must be `tri.area_divisor()`.
-#[inline(always)]
-fn color_ramps_of(tri: &Tri, divisor: &Divisor) -> ColorRamps
-    requires divisor { divisor.now ≡ divisor_for tri.now }
-    ensures { AreColorRamps tri.now result }
-{
-    ColorRamps {
-        red: PlaneRamp::of(&tri.plane(0, divisor)),
-        green: PlaneRamp::of(&tri.plane(1, divisor)),
-        blue: PlaneRamp::of(&tri.plane(2, divisor)),
-    }
+    coord_ramps_with(&tri.attribute_setup(divisor))
 }
 
 // Returns all five attributes of a triangle. `divisor` must be `tri.area_divisor()`.
@@ -69,9 +78,10 @@ pub(crate) fn attribute_ramps_of(tri: &Tri, divisor: &Divisor) -> AttributeRamps
     ensures coord_planes { AreCoordRamps tri.now result.coord_planes }
     ensures colors { AreColorRamps tri.now result.colors }
 {
+    let setup = tri.attribute_setup(divisor);
     AttributeRamps {
-        coord_planes: coord_ramps_of(tri, divisor),
-        colors: color_ramps_of(tri, divisor),
+        coord_planes: coord_ramps_with(&setup),
+        colors: color_ramps_with(&setup),
     }
 }
 

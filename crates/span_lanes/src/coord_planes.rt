@@ -20,9 +20,10 @@ pub(crate) fn coord_planes_of(tri: &Tri, divisor: &Divisor) -> CoordPlanes
     requires divisor { divisor.now ≡ divisor_for tri.now }
     ensures { AreCoordPlanes tri.now result }
 {
+    let setup = tri.attribute_setup(divisor);
     CoordPlanes {
-        u: tri.plane(3, divisor),
-        v: tri.plane(4, divisor),
+        u: setup.plane(3),
+        v: setup.plane(4),
     }
 }
 

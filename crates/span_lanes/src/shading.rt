@@ -24,10 +24,11 @@ fn gouraud_planes(tri: &Tri, divisor: &Divisor) -> Shading
     requires divisor { divisor.now ≡ divisor_for tri.now }
     ensures { IsShadingOf tri.now result }
 {
+    let setup = tri.attribute_setup(divisor);
     Shading::Planes {
-        red: tri.plane(0, divisor),
-        green: tri.plane(1, divisor),
-        blue: tri.plane(2, divisor),
+        red: setup.plane(0),
+        green: setup.plane(1),
+        blue: setup.plane(2),
     }
 }
 
