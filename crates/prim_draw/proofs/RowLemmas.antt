@@ -24,7 +24,7 @@ use Rattle.prim_draw.specs.Rows.{DrawsRows, DrawsRun, Figure, PaintsAs}
 use Rattle.span_lanes.specs.Pattern.{run_span}
 use Rattle.prim_draw.specs.Triangles.{draws, row_inside, run_cells}
 use Rattle.span_lanes.specs.declared.span.Run.{Run}
-use Rattle.span_lanes.specs.declared.clip_rect.ClipRect.{ClipRect}
+use Rattle.span_lanes.specs.declared.span.ClipRect.{ClipRect}
 
 -- a test is true for `count` cells of a row from column `first` on, and false for the other of the row's w cells from
 -- x on

@@ -7,7 +7,7 @@ use Rattle.vram_store.specs.Vram.{height_of}
 use Rattle.span_lanes.specs.Cells.{Stage}
 use Rattle.span_lanes.specs.Draws.{CanDraw}
 use Rattle.span_lanes.specs.ClipRect.{IsClipRect}
-use Rattle.span_lanes.specs.declared.clip_rect.ClipRect.{ClipRect}
+use Rattle.span_lanes.specs.declared.span.ClipRect.{ClipRect}
 use Rattle.prim_draw.specs.ClippedTriangle.{CanDrawRows}
 use Rattle.prim_draw.specs.Boxes.{IsOnScreen, clip_rect_of}
 use Rattle.span_lanes.specs.Pattern.{LiesInClip, Pattern, run_span, uniform}

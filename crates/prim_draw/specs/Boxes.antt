@@ -7,7 +7,7 @@ use Rattle.px_num.specs.declared.shape.Cell.{Cell}
 use Rattle.gp1_status.specs.Registers.{Registers}
 use Rattle.span_lanes.specs.Cells.{row_cells}
 use Rattle.gp1_status.specs.Drawing.{drawing_area}
-use Rattle.span_lanes.specs.declared.clip_rect.ClipRect.{ClipRect}
+use Rattle.span_lanes.specs.declared.span.ClipRect.{ClipRect}
 
 -- a box, or none if it has no cell
 unfoldable pub some_box : Box2 → Option Box2

@@ -13,7 +13,7 @@ use Rattle.span_lanes.specs.Shade.{IsBrush, row_u}
 use Rattle.prim_draw.specs.Boxes.{clip_rect_of, cells_of, clipped}
 use Rattle.span_lanes.specs.Pattern.{Pattern, painted_cells}
 use Rattle.prim_draw.specs.Settings.{brush_in, texture_in}
-use Rattle.span_lanes.specs.declared.clip_rect.ClipRect.{ClipRect}
+use Rattle.span_lanes.specs.declared.span.ClipRect.{ClipRect}
 use Rattle.prim_draw.specs.declared.rectangles.Extent.{Extent}
 use Rattle.prim_draw.specs.declared.rectangles.RectangleSetup.{RectangleSetup}
 use Rattle.prim_draw.specs.declared.style.Style.{Style}

@@ -17,7 +17,7 @@ use Rattle.span_lanes.specs.Cells.{row_cells}
 use Rattle.prim_draw.specs.Boxes.{clip_rect_of, cells_of, clipped}
 use Rattle.span_lanes.specs.Pattern.{uniform, painted_cells}
 use Rattle.prim_draw.specs.Settings.{brush_in, placed, texture_in}
-use Rattle.span_lanes.specs.declared.clip_rect.ClipRect.{ClipRect}
+use Rattle.span_lanes.specs.declared.span.ClipRect.{ClipRect}
 use Rattle.span_lanes.specs.declared.span.DrawState.{DrawState}
 use Rattle.prim_draw.specs.declared.vertices.Polygon.{Polygon}
 use Rattle.prim_draw.specs.declared.style.Style.{Style}

@@ -20,7 +20,7 @@ use vram_store::{Steps, Vram};
 pub(crate) trait Rows: Drop {
     ghost use Rattle.std.specs.Prelude.{ℕ, ◌≡◌, ◌+◌, ◌<◌, IfSome, List};
     ghost use Rattle.px_num.specs.declared.shape.Cell.{Cell};
-    ghost use Rattle.span_lanes.specs.declared.clip_rect.ClipRect.{ClipRect};
+    ghost use Rattle.span_lanes.specs.declared.span.ClipRect.{ClipRect};
     ghost use Rattle.prim_draw.specs.Triangles.{run_cells};
     ghost use Rattle.span_lanes.specs.declared.span.Run.{Run};
 

@@ -1,7 +1,7 @@
 -- Spans that are drawn chunk by chunk, each chunk in some steps fewer than its cost.
 use Rattle.std.proofs.Common.{◌≡◌, ◌<◌, ◌≤◌, ℕ, zero, suc, List, ◌+◌, ◌-◌, ◌*◌, ◌/◌}
 use Rattle.std.proofs.Common.{min, length, sym, subst, arith, ◌∙◌}
-use Rattle.span_lanes.specs.declared.chunk.Chunk.{Chunk}
+use Rattle.span_lanes.specs.declared.span.Chunk.{Chunk}
 use Rattle.span_lanes.specs.declared.span.Span.{Span}
 use Rattle.texel_lanes.specs.declared.texture.Texture.{Texture}
 use Rattle.span_lanes.specs.Draws.{CanDraw, CanSample, DrawsChunk, DrawsSpan, at_stage}

@@ -2,11 +2,11 @@
 use Rattle.std.specs.Prelude.{ℕ, ◌≡◌, ◌<◌, List, slice_index}
 use Rattle.px_num.specs.Lanes.{EachLane, AreBytes}
 use Rattle.texture_page.specs.Page.{clut_place}
-use Rattle.span_lanes.specs.declared.chunk.Chunk.{Chunk}
+use Rattle.span_lanes.specs.declared.span.Chunk.{Chunk}
 use Rattle.span_lanes.specs.declared.span.Span.{Span}
 use Rattle.texel_lanes.specs.declared.texture.Texture.{Texture}
-use Rattle.span_lanes.specs.declared.colored_clut.ColoredClut.{ColoredClut}
-use Rattle.span_lanes.specs.declared.row_colors.RowColors.TheVariants.{One}
+use Rattle.span_lanes.specs.declared.modulated.ColoredClut.{ColoredClut}
+use Rattle.span_lanes.specs.declared.shading.RowColors.TheVariants.{One}
 use Rattle.span_lanes.specs.Draws.{CanSample}
 use Rattle.span_lanes.specs.Guard.{IsHazardFree}
 use Rattle.span_lanes.specs.RowColors.{AreRowColors}

@@ -2,7 +2,7 @@
 use Rattle.std.specs.Prelude.{ℕ, ◌+◌, ◌*◌, List}
 use Rattle.vram_store.specs.Plot.{drawn_lanes, later}
 use Rattle.vram_store.specs.Chunk.{HasLanes}
-use Rattle.span_lanes.specs.declared.chunk.Chunk.{Chunk}
+use Rattle.span_lanes.specs.declared.span.Chunk.{Chunk}
 use Rattle.span_lanes.specs.declared.span.Span.{Span}
 use Rattle.span_lanes.specs.Shade.{shade}
 

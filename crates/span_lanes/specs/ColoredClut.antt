@@ -6,7 +6,7 @@ use Rattle.texture_page.specs.Page.{clut_place}
 use Rattle.texel_lanes.specs.declared.texture.Texture.{Texture}
 use Rattle.span_lanes.specs.declared.span.Paint.{Paint}
 use Rattle.span_lanes.specs.declared.span.Span.{Span}
-use Rattle.span_lanes.specs.declared.colored_clut.ColoredClut.{ColoredClut}
+use Rattle.span_lanes.specs.declared.modulated.ColoredClut.{ColoredClut}
 use Rattle.texel_lanes.specs.declared.table.Table.{Table}
 use Rattle.texel_lanes.specs.Texture.{at_cell}
 use Rattle.span_lanes.specs.Guard.{IsHazardFree}

@@ -1,7 +1,7 @@
 -- The effect of drawing a span, or a chunk of one.
 use Rattle.std.specs.Prelude.{ℕ, ◌≡◌, ◌≤◌, ◌+◌, ◌%◌, List, Some, length}
 use Rattle.vram_store.specs.Vram.{height_of}
-use Rattle.span_lanes.specs.declared.chunk.Chunk.{Chunk}
+use Rattle.span_lanes.specs.declared.span.Chunk.{Chunk}
 use Rattle.span_lanes.specs.declared.span.Span.{Span}
 use Rattle.texel_lanes.specs.declared.texture.Texture.{Texture}
 use Rattle.span_lanes.specs.Cells.{Stage}

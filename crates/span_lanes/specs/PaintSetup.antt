@@ -1,7 +1,7 @@
 -- Paints that are set up for drawing.
 use Rattle.std.specs.Prelude.{ℕ, ◌≡◌, None}
-use Rattle.span_lanes.specs.declared.paint_setup.PaintSetup.{PaintSetup}
-use Rattle.span_lanes.specs.declared.paint_setup.PaintSetup.TheVariants.{Solid, Untextured, Tri, ContiguousTri, Row}
+use Rattle.span_lanes.specs.declared.row_drawer.PaintSetup.{PaintSetup}
+use Rattle.span_lanes.specs.declared.row_drawer.PaintSetup.TheVariants.{Solid, Untextured, Tri, ContiguousTri, Row}
 use Rattle.span_lanes.specs.Lanes.{IsSolid}
 use Rattle.span_lanes.specs.Paints.{row_paint}
 use Rattle.span_lanes.specs.SpanDrawer.{IsShadingFor, state_span}

@@ -2,7 +2,7 @@
 use Rattle.std.specs.Prelude.{ℕ, List, ◌≡◌, ◌+◌, ◌<◌, pos, IsTrue}
 use Rattle.edge_walk.specs.Line.{line_value}
 use Rattle.edge_walk.specs.Triangle.{Corners, is_inside}
-use Rattle.span_lanes.specs.declared.chunk.Chunk.{Chunk}
+use Rattle.span_lanes.specs.declared.span.Chunk.{Chunk}
 use Rattle.span_lanes.specs.declared.tex_coords.CoordAlongRow.{CoordAlongRow}
 use Rattle.span_lanes.specs.declared.tex_coords.CoordAlongRow.TheVariants.{Line, Row, Same}
 use Rattle.span_lanes.specs.declared.tex_coords.TexCoords.{TexCoords}

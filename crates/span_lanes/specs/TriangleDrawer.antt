@@ -4,10 +4,10 @@ use Rattle.edge_walk.specs.Attribute.{IsUnscaled}
 use Rattle.edge_walk.specs.Triangle.{Corners}
 use Rattle.texel_lanes.specs.Texture.{IsTexture}
 use Rattle.texel_lanes.specs.declared.texture.Texture.{Texture}
-use Rattle.span_lanes.specs.declared.clip_rect.ClipRect.{ClipRect}
-use Rattle.span_lanes.specs.declared.row_methods.RowMethod.{RowMethod}
-use Rattle.span_lanes.specs.declared.row_methods.RowMethod.TheVariants.{CachedClut, Contiguous, FlatTexelsByCoords}
-use Rattle.span_lanes.specs.declared.row_methods.RowMethod.TheVariants.{GouraudTexels}
+use Rattle.span_lanes.specs.declared.span.ClipRect.{ClipRect}
+use Rattle.span_lanes.specs.declared.triangle_drawer.RowMethod.{RowMethod}
+use Rattle.span_lanes.specs.declared.triangle_drawer.RowMethod.TheVariants.{CachedClut, Contiguous, FlatTexelsByCoords}
+use Rattle.span_lanes.specs.declared.triangle_drawer.RowMethod.TheVariants.{GouraudTexels}
 use Rattle.span_lanes.specs.declared.attribute_ramps.AttributeRamps.{AttributeRamps}
 use Rattle.span_lanes.specs.declared.attribute_ramps.CoordRamps.{CoordRamps}
 use Rattle.span_lanes.specs.declared.triangle_setup.TriangleSetup.{TriangleSetup}

@@ -1,6 +1,6 @@
 -- Spans without a texture, and their colours.
 use Rattle.std.specs.Prelude.{ℕ, ℤ, ◌≡◌, List, None}
-use Rattle.span_lanes.specs.declared.row_colors.RowColors.{RowColors}
+use Rattle.span_lanes.specs.declared.shading.RowColors.{RowColors}
 use Rattle.span_lanes.specs.declared.span.Span.{Span}
 use Rattle.span_lanes.specs.Draws.{CanDraw}
 use Rattle.span_lanes.specs.RowColors.{AreRowColors}

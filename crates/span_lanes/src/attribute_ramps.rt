@@ -6,11 +6,9 @@ ghost use Rattle.edge_walk.specs.Triangle.{Corners};
 ghost use Rattle.span_lanes.specs.AttributeRamps.{AreColorsOf, AreColorRamps, AreCoordRamps, AreCoordRampsOf};
 
 use crate::Texture;
-use crate::chunk::Chunk;
-use crate::color_lanes::ColorLanes;
-use crate::color_source::ColorSource;
-use crate::coord_source::{CoordSource, indexes_by_coords, texels_by_coords};
-use crate::sampler::{IndexSampler, Sampler};
+use crate::color_lanes::{ColorLanes, ColorSource};
+use crate::sampler::{CoordSource, IndexSampler, Sampler, indexes_by_coords, texels_by_coords};
+use crate::span::Chunk;
 use edge_walk::{AttributeSetup, Divisor, PlaneRamp, Tri};
 use std::simd::prelude::*;
 use std::sync::ledger::Ledger;

@@ -7,12 +7,12 @@ ghost use Rattle.span_lanes.specs.TexelRun.{IsTexelRun};
 ghost use Rattle.span_lanes.specs.ColoredClut.{IsCached, CanCacheClut};
 
 use crate::chunk_loop::{draw_by_brush, draw_chunks};
-use crate::colored_clut::{ColoredClut, cache_clut};
-use crate::row_shading::has_undithered_clut16;
+use crate::modulated::{ColoredClut, cache_clut};
 use crate::sampler::{FlatTexels, IndexSampler};
+use crate::shading::has_undithered_clut16;
 use crate::texel_run::TexelRun;
 use crate::texel_run_rows::with_raw;
-use crate::texels::CachedClut;
+use crate::textured_chunks::CachedClut;
 use crate::{Span, Texture};
 use std::sync::ledger::Ledger;
 use vram_store::{Steps, Vram};

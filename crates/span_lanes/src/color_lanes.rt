@@ -1,10 +1,12 @@
-// The colours and dither offsets of sixteen cells.
-ghost use Rattle.std.specs.Prelude.{◌≡◌, ◌≤◌, ◌<◌, ◌+◌, ◌/◌, ◌%◌, ◌*◌, ◌^◌, ℕ, pos};
-ghost use Rattle.std.specs.Prelude.{length, slice_index, slice_index_or};
+// The colours and dither offsets of sixteen cells, and sources of the colours of a span.
+ghost use Rattle.std.specs.Prelude.{◌≡◌, ◌≤◌, ◌<◌, ◌+◌, ◌/◌, ◌%◌, ◌*◌, ◌^◌, ℕ, pos, length, slice_index};
+ghost use Rattle.std.specs.Prelude.{slice_index_or};
 ghost use Rattle.blend_dither.specs.Color.{dither_offset, tone_of, modulated_of};
 ghost use Rattle.px_num.specs.Lanes.{EachLane};
 ghost use Rattle.span_lanes.specs.Lanes.{AreChannels, HasColors, AreDitherLanes, AreDitherLanesAt};
 
+use crate::Span;
+use crate::span::Chunk;
 use blend_dither::{modulate_lanes, tone_lanes};
 use px_num::lanes::splat;
 use std::simd::prelude::*;
@@ -130,4 +132,23 @@ pub(crate) fn modulated_by(texels: u16x16, colors: ColorLanes, dither_lanes: Dit
         colors.blue,
         dither_lanes.lanes,
     )
+}
+
+// Computes the colours of a span's cells, chunk by chunk.
+pub(crate) trait ColorSource {
+    ghost use Rattle.span_lanes.specs.Draws.{IsChunk};
+    ghost use Rattle.span_lanes.specs.Lanes.{HasColors, colors_from};
+    ghost use Rattle.span_lanes.specs.Shade.{IsSpan};
+    ghost use Rattle.span_lanes.specs.declared.span.Span.{Span};
+
+    // The colours are those of this span.
+    ghost suits: { Self → Span → Type 0 };
+
+    fn colors(&self, chunk: &Chunk) -> ColorLanes
+        requires span { IsSpan chunk.now.span.now }
+        requires suits { suits self.now chunk.now.span.now }
+        requires chunk { IsChunk chunk.now }
+        ensures { HasColors (colors_from chunk.now.span.now.paint (chunk.now.span.now.x + chunk.now.first)
+            chunk.now.span.now.y) chunk.now.k
+            result.red result.green result.blue };
 }

@@ -9,11 +9,11 @@ ghost use Rattle.span_lanes.specs.ColoredClut.{IsCached};
 
 use crate::Span;
 use crate::cached_clut::{can_cache_clut, draw_cached_run};
-use crate::colored_clut::ColoredClut;
-use crate::sampler::{BoundSampler, FlatTexels, sampler_of};
+use crate::modulated::ColoredClut;
+use crate::sampler::FlatTexels;
 use crate::shading::Shading;
 use crate::texel_run::{TexelRun, triangle_row_run};
-use crate::texel_run_rows::draw_texel_run;
+use crate::texel_run_rows::{BoundSampler, draw_texel_run, sampler_of};
 use crate::triangle_setup::TriangleSetup;
 use std::sync::ledger::Ledger;
 use vram_store::{Steps, Vram};

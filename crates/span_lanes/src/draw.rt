@@ -32,20 +32,18 @@ ghost use Rattle.span_lanes.specs.PaintSetup.{IsPaintSetup};
 ghost use Rattle.span_lanes.specs.ColoredClut.{IsCached};
 
 use crate::Span;
-use crate::by_coords::draw_by_coords;
 use crate::chunk_loop::draw_chunks;
-use crate::colored_clut::ColoredClut;
 use crate::contiguous_rows::draw_contiguous;
+use crate::guarded::{draw_by_coords, rectangle_row_setup};
 use crate::guarded_triangle::{draw_contiguous_tri, draw_tri};
-use crate::paint_setup::PaintSetup;
-use crate::row_setup::rectangle_row_setup;
-use crate::sampler::sampler_of;
+use crate::modulated::ColoredClut;
+use crate::row_drawer::PaintSetup;
 use crate::shading::Shading;
-use crate::solid::Solid;
 use crate::texel_hazards::is_run_hazard_free;
-use crate::texel_row::TexelRow;
+use crate::texel_rows::TexelRow;
 use crate::texel_run::rectangle_row_run;
-use crate::untextured::draw_untextured;
+use crate::texel_run_rows::sampler_of;
+use crate::untextured_rows::{Solid, draw_untextured};
 use std::sync::ledger::Ledger;
 use vram_store::{Steps, Vram};
 

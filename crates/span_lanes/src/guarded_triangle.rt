@@ -6,13 +6,12 @@ ghost use Rattle.span_lanes.specs.TriangleSetup.{IsSetupOf};
 ghost use Rattle.span_lanes.specs.ColoredClut.{IsCached};
 
 use crate::Span;
-use crate::by_coords::draw_by_coords;
-use crate::colored_clut::ColoredClut;
 use crate::contiguous_rows::draw_contiguous;
-use crate::row_setup::triangle_row_setup;
-use crate::sampler::sampler_of;
+use crate::guarded::{draw_by_coords, triangle_row_setup};
+use crate::modulated::ColoredClut;
 use crate::texel_hazards::is_run_hazard_free;
 use crate::texel_run::triangle_row_run;
+use crate::texel_run_rows::sampler_of;
 use crate::triangle_setup::TriangleSetup;
 use std::sync::ledger::Ledger;
 use vram_store::{Steps, Vram};

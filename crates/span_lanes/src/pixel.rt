@@ -1,22 +1,24 @@
-// The pixel of one cell of a span.
-ghost use Rattle.std.specs.Prelude.{◌≡◌, ◌≤◌, ◌<◌, ◌+◌, pos, IsTrue};
+// One cell of a span: its pixel, and how it is drawn.
+ghost use Rattle.std.specs.Prelude.{◌≡◌, ◌≤◌, ◌<◌, ◌+◌, pos, IsTrue, ◌*◌, length};
 ghost use Rattle.blend_dither.specs.Color.{IsShift};
 ghost use Rattle.edge_walk.specs.Triangle.{is_inside};
 ghost use Rattle.vram_store.specs.Vram.{at, height_of};
-ghost use Rattle.span_lanes.specs.Shade.{IsSpan, LiesIn, row_u, dither_of, blended_if, modulated_texel};
-ghost use Rattle.span_lanes.specs.Shade.{flat_pixel, textured_pixel, shade, attribute_in, color_in};
+ghost use Rattle.span_lanes.specs.Shade.{IsSpan, LiesIn, row_u, dither_of, blended_if, modulated_texel, flat_pixel};
+ghost use Rattle.span_lanes.specs.Shade.{textured_pixel, shade, attribute_in, color_in};
 ghost use Rattle.span_lanes.specs.Cost.{paint_steps};
+ghost use Rattle.vram_store.specs.Plot.{put_at, draw_lane};
 
-use crate::texel_row::row_u;
+use crate::texel_rows::row_u;
 use crate::{Brush, Paint, Span};
 use blend_dither::{blend, modulate, pack, shift_at, tone};
 use edge_walk::Tri;
 use std::sync::ledger::Ledger;
 use texel_lanes::read_texel;
+use vram_store::mask::write_over;
 use vram_store::{Steps, Vram};
 
 #[tactic(auto, unfolding(crate::specs::Shade::dither_of))]
-pub(crate) fn shift_for(dither: bool, x: u16, y: u16) -> i8
+fn shift_for(dither: bool, x: u16, y: u16) -> i8
     ensures value { result ≡ dither_of dither x y }
     ensures small { IsShift result }
 {
@@ -78,7 +80,7 @@ fn texel_pixel(brush: &Brush, raw: bool, color: u32, shift: i8, back: u16, t: u1
 
 // Returns an attribute of a triangle at the cell (`x`, `y`), which must be inside. `which` is 0 to 2 for red, green and
 // blue, 3 for u, and 4 for v.
-pub(crate) fn attribute_of(tri: &Tri, which: u8, x: u16, y: u16) -> u8
+fn attribute_of(tri: &Tri, which: u8, x: u16, y: u16) -> u8
     requires which { which ≤ 4 }
     requires inside { IsTrue (is_inside tri.now (pos x) (pos y)) }
     ensures { result ≡ attribute_in tri.now which x y }
@@ -100,7 +102,7 @@ fn color_of(tri: &Tri, x: u16, y: u16) -> u32
 // Returns the pixel of cell `i` of a span, below `span.n`, or `None` if its texel is 0. `back` must be the cell's
 // value. Costs at most the steps of the texel.
 #[tactic(auto, unfolding(crate::specs::Shade::shade))]
-pub(crate) fn pixel_of<L: Ledger>(
+fn pixel_of<L: Ledger>(
     vram: &Vram,
     span: &Span,
     i: u16,
@@ -143,4 +145,33 @@ pub(crate) fn pixel_of<L: Ledger>(
             texel_pixel(&span.brush, texture.raw, *color, shift, back, t)
         }
     }
+}
+
+fn put_if<L: Ledger>(vram: &mut Vram, x: u16, y: u16, written: Option<u16>, steps: &mut Steps<L>)
+    requires in_row { x < 1024 }
+    requires in_height { y < height_of vram.old }
+    ensures cells { vram.new ≡ put_at (1024 * y + x) written vram.old }
+    ensures long { length vram.new ≡ length vram.old }
+    ensures cost { steps.new ≤ steps.old + 1 }
+{
+    match written {
+        None => {}
+        Some(h) => vram.put(x, y, h, steps),
+    }
+}
+
+// Draws cell `i` of a span, below `span.n`. Costs at most two steps, plus those of the texel.
+pub(crate) fn draw_cell<L: Ledger>(vram: &mut Vram, span: &Span, i: u16, steps: &mut Steps<L>)
+    requires span { IsSpan span.now }
+    requires height { LiesIn (height_of vram.old) span.now }
+    requires within { i < span.now.n }
+    ensures cells { vram.new
+        ≡ draw_lane (shade span.now) span.now.brush.mask (1024 * span.now.y + span.now.x) i vram.old }
+    ensures long { length vram.new ≡ length vram.old }
+    ensures cost { steps.new ≤ steps.old + (paint_steps span.now.paint + 2) }
+{
+    let back = vram.get(span.x + i, span.y, steps);
+    let pixel = pixel_of(vram, span, i, back, steps);
+    let written = write_over(span.brush.mask, back, pixel);
+    put_if(vram, span.x + i, span.y, written, steps);
 }

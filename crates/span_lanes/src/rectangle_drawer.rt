@@ -3,10 +3,10 @@ ghost use Rattle.std.specs.Prelude.{ℕ, ◌≡◌, List};
 ghost use Rattle.span_lanes.specs.ClipRect.{IsClipRect};
 
 use crate::cached_clut::draw_cached;
-use crate::colored_clut::ColoredClut;
 use crate::draw::draw_row;
+use crate::modulated::ColoredClut;
 use crate::sampler::FlatTexels;
-use crate::texel_row::TexelRow;
+use crate::texel_rows::TexelRow;
 use crate::{RowDrawer, Run, TexelRows};
 use std::sync::ledger::Ledger;
 use vram_store::{Steps, Vram};

@@ -7,7 +7,7 @@ ghost use Rattle.span_lanes.specs.HazardFree.{AreTexelsApart};
 ghost use Rattle.span_lanes.specs.TexelRows.{AreRowsHazardFree, texel_row, texel_span};
 
 use crate::TexelRows;
-use crate::hazard_free::{is_clip_off_clut, is_clip_outside_page};
+use crate::hazard::{is_clip_off_clut, is_clip_outside_page};
 
 // Returns true only if the row of the texels increases by 1 from row to row, and neither wraps nor is changed by the
 // window.

@@ -1,5 +1,5 @@
-// Spans, and what their cells are drawn with.
-ghost use Rattle.std.specs.Prelude.{◌≡◌};
+// Spans and their chunks, what their cells are drawn with, and clip rectangles.
+ghost use Rattle.std.specs.Prelude.{◌≡◌, IsTrue, false};
 ghost use Rattle.span_lanes.specs.SpanDrawer.{state_of};
 ghost use Rattle.span_lanes.specs.declared.span.Paint.TheVariants.{TexturedTri};
 
@@ -103,4 +103,63 @@ pub(crate) fn empty_span(tri: &Tri, texture: &Texture, brush: &Brush) -> Span
         },
         brush: *brush,
     }
+}
+
+// Returns whether pixels are opaque: neither blended nor tested, and without a forced bit 15.
+#[inline(always)]
+pub(crate) fn is_opaque(brush: &Brush) -> bool
+    ensures mask { IsTrue result → brush.now.mask ≡ 0 }
+    ensures semi { IsTrue result → brush.now.semi ≡ false }
+{
+    brush.mask == 0 && !brush.semi
+}
+
+// Returns the same pixel settings, which must be opaque. The compiler then knows this.
+#[inline(always)]
+pub(crate) fn opaque_brush(brush: &Brush) -> Brush
+    requires mask { brush.now.mask ≡ 0 }
+    requires semi { brush.now.semi ≡ false }
+    ensures { result ≡ brush.now }
+{
+    Brush {
+        mask: 0,
+        semi: false,
+        ..*brush
+    }
+}
+
+// Returns the same span, whose pixels must be opaque. The compiler then knows this, and makes a separate loop.
+#[inline(always)]
+pub(crate) fn opaque(span: &Span) -> Span
+    requires mask { span.now.brush.mask ≡ 0 }
+    requires semi { span.now.brush.semi ≡ false }
+    ensures { result ≡ span.now }
+{
+    Span {
+        brush: opaque_brush(&span.brush),
+        ..*span
+    }
+}
+
+// Up to sixteen consecutive cells of a span.
+#[derive(Clone, Copy)]
+pub(crate) struct Chunk<'a> {
+    pub(crate) span: &'a Span,
+    // the number of its first cell in the span
+    pub(crate) first: u16,
+    // the number of its cells
+    pub(crate) k: u8,
+}
+
+/// A rectangle of cells of video memory, outside which nothing is drawn.
+#[derive(Clone, Copy)]
+pub struct ClipRect {
+    /// The first column.
+    pub x: u16,
+    /// The first row.
+    pub y: u16,
+    /// The number of columns, at least 1.
+    pub w: u16,
+    /// The number of rows, at least 1.
+    pub h: u16,
 }

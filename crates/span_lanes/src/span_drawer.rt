@@ -3,9 +3,9 @@ ghost use Rattle.vram_store.specs.Vram.{height_of};
 ghost use Rattle.span_lanes.specs.SpanDrawer.{DrawsCells};
 ghost use Rattle.span_lanes.specs.Shade.{IsSpan, LiesIn};
 
-use crate::colored_clut::ColoredClut;
 use crate::draw::draw_ready;
-use crate::paint_setup::{PaintSetup, paint_setup_of};
+use crate::modulated::ColoredClut;
+use crate::row_drawer::{PaintSetup, paint_setup_of};
 use crate::{DrawState, RowDrawer, Run, Span};
 use std::sync::ledger::Ledger;
 use vram_store::{Steps, Vram};

@@ -1,23 +1,51 @@
-// The texel coordinates of a span's cells.
-ghost use Rattle.std.specs.Prelude.{◌≡◌, ◌≤◌, ◌<◌, ◌+◌, ℕ, pos, IsTrue, true, false, slice_index};
+// Texel coordinates: their planes over a triangle, and their values along a row.
+ghost use Rattle.std.specs.Prelude.{◌≡◌, ℕ, pos, IsTrue, ◌≤◌, ◌<◌, ◌+◌, true, false, slice_index};
+ghost use Rattle.edge_walk.specs.Held.{divisor_for};
+ghost use Rattle.edge_walk.specs.Plane.{IsPlane};
 ghost use Rattle.edge_walk.specs.Triangle.{Corners, is_inside};
-ghost use Rattle.span_lanes.specs.Shade.{row_u};
 ghost use Rattle.span_lanes.specs.SpanDrawer.{AreCoordPlanes};
+ghost use Rattle.span_lanes.specs.Shade.{attribute_in, row_u};
 ghost use Rattle.texel_lanes.specs.Texels.{AreCoordinates};
 ghost use Rattle.span_lanes.specs.TexCoords.{coord_at, IsCoordAlong};
 
 use crate::Texture;
-use crate::chunk::Chunk;
-use crate::coord_planes::CoordPlanes;
-use crate::coord_source::{CoordSource, indexes_by_coords};
-use crate::row_colors::line_of;
-use crate::sampler::IndexSampler;
-use edge_walk::RowLine;
+use crate::sampler::{CoordSource, IndexSampler, indexes_by_coords};
+use crate::shading::line_of;
+use crate::span::Chunk;
+use edge_walk::{Divisor, Plane, RowLine, Tri};
 use px_num::lanes::{add, low_bits, ramp, splat, sub_or_zero};
 use std::simd::prelude::*;
 use std::sync::ledger::Ledger;
 use texel_lanes::Coordinates;
 use vram_store::{Steps, Vram};
+
+// The planes of u and v.
+#[derive(Clone, Copy)]
+pub(crate) struct CoordPlanes {
+    pub(crate) u: Plane,
+    pub(crate) v: Plane,
+}
+
+#[inline(always)]
+pub(crate) fn coord_planes_of(tri: &Tri, divisor: &Divisor) -> CoordPlanes
+    requires divisor { divisor.now ≡ divisor_for tri.now }
+    ensures { AreCoordPlanes tri.now result }
+{
+    let setup = tri.attribute_setup(divisor);
+    CoordPlanes {
+        u: setup.plane(3),
+        v: setup.plane(4),
+    }
+}
+
+// Returns the value of an attribute's plane at the cell (`x`, `y`), which must be inside the triangle.
+#[inline(always)]
+pub(crate) fn value_of(plane: &Plane, x: u16, y: u16) -> u8
+    ensures { (tri : Corners) (which : ℕ)
+        → IsPlane tri which plane.now → IsTrue (is_inside tri (pos x) (pos y)) → result ≡ attribute_in tri which x y }
+{
+    plane.value_at(x as i32, y as i32)
+}
 
 // One texel coordinate along a row: an attribute of a triangle, a column that increases or decreases from `u`, or one
 // value for all cells.

@@ -8,8 +8,8 @@ ghost use Rattle.span_lanes.specs.HazardFree.{AreColumnsApart, AreTexelsApart};
 ghost use Rattle.span_lanes.specs.Paints.{row_paint};
 ghost use Rattle.span_lanes.specs.TexelRun.{IsTexelRun};
 
-use crate::hazard_free::{is_hazard_free, is_off_clut};
-use crate::texel_row::TexelRow;
+use crate::hazard::{is_hazard_free, is_off_clut};
+use crate::texel_rows::TexelRow;
 use crate::texel_run::TexelRun;
 use crate::{Span, Texture};
 use texel_lanes::column_of;

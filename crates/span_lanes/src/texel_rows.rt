@@ -1,17 +1,44 @@
-// Rows of texels of a rectangle.
-ghost use Rattle.std.specs.Prelude.{ℕ, ◌≡◌, ◌≤◌, ◌+◌, IsTrue, false};
+// A row of texels, and the rows of a rectangle.
+ghost use Rattle.std.specs.Prelude.{◌≡◌, ◌≤◌, ℕ, ◌+◌, IsTrue, false};
+ghost use Rattle.span_lanes.specs.Shade.{row_u};
 ghost use Rattle.texel_lanes.specs.Texture.{IsTexture};
 ghost use Rattle.span_lanes.specs.ClipRect.{IsClipRect};
 ghost use Rattle.span_lanes.specs.TexelRun.{IsTexelRun};
 ghost use Rattle.span_lanes.specs.TexelRows.{IsRowOf, CanCacheRows, texel_row, texel_span};
 
-use crate::opaque::{is_opaque, opaque_brush};
-use crate::row_shading::has_undithered_clut16;
 use crate::rows_hazard_free::are_rows_hazard_free;
-use crate::texel_row::{TexelRow, row_u};
+use crate::shading::has_undithered_clut16;
+use crate::span::{is_opaque, opaque_brush};
 use crate::texel_run::{TexelRun, does_not_wrap, is_unwindowed, run_at_coords};
 use crate::texel_run_rows::with_raw;
 use crate::{Brush, ClipRect, Paint, Span, Texture};
+
+// Texels of row `v` of a page under one colour. The first has column `u`; the columns decrease if `flip` is true,
+// otherwise increase.
+#[derive(Clone, Copy)]
+pub(crate) struct TexelRow {
+    pub(crate) color: u32,
+    pub(crate) texture: Texture,
+    pub(crate) u: u8,
+    pub(crate) v: u8,
+    pub(crate) flip: bool,
+}
+
+/// Returns the column or row of the texel `cells` cells after the first, whose column or row is `first`. It increases
+/// by 1 from cell to cell, or decreases by 1 if `falls` is true, and wraps at 256. `cells` is at most 1024.
+#[inline(always)]
+#[tactic(auto, unfolding(crate::specs::Shade::row_u))]
+pub fn row_u(first: u8, falls: bool, cells: u16) -> u8
+    requires { cells ≤ 1024 }
+    ensures { result ≡ row_u first falls cells }
+{
+    let first = first as u16;
+    if falls {
+        ((first + 1024 - cells) & 0xff) as u8
+    } else {
+        ((first + cells) & 0xff) as u8
+    }
+}
 
 /// Rows of texels for the rows of a clip rectangle, all from one column of the texture page on.
 #[derive(Clone, Copy)]

@@ -9,8 +9,8 @@ ghost use Rattle.span_lanes.specs.TriangleSetup.{IsSetupOf};
 ghost use Rattle.span_lanes.specs.TexelRun.{IsRising, IsTexelRun};
 ghost use Rattle.span_lanes.specs.TriangleDrawer.{AreContiguous};
 
-use crate::coord_planes::value_of;
-use crate::texel_row::TexelRow;
+use crate::tex_coords::value_of;
+use crate::texel_rows::TexelRow;
 use crate::triangle_setup::TriangleSetup;
 use crate::{Span, Texture};
 use texture_page::texel_cell;

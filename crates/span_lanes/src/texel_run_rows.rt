@@ -6,16 +6,29 @@ ghost use Rattle.span_lanes.specs.SpanDrawer.{IsShadingFor};
 ghost use Rattle.span_lanes.specs.TexelRun.{IsTexelRun};
 
 use crate::chunk_loop::draw_by_brush;
-use crate::row_colors::row_colors_of;
-use crate::row_shading::row_shading_of;
-use crate::sampler::{BoundSampler, Sampler, sampler_of};
-use crate::shading::Shading;
-use crate::side_by_side::{EightBitRun, FifteenBitRun, FourBitRun};
+use crate::sampler::Sampler;
+use crate::shading::{Shading, row_colors_of, row_shading_of};
 use crate::texel_run::TexelRun;
-use crate::texels::{Raw, Shaded};
+use crate::texel_run_samplers::{EightBitRun, FifteenBitRun, FourBitRun};
+use crate::textured_chunks::{Raw, Shaded};
 use crate::{Span, Texture};
 use std::sync::ledger::Ledger;
 use vram_store::{Steps, Vram};
+
+// A texture with its sampler.
+#[derive(Clone, Copy)]
+pub(crate) struct BoundSampler<'a, S> {
+    pub(crate) texture: &'a Texture,
+    pub(crate) sampler: S,
+}
+
+#[inline(always)]
+pub(crate) fn sampler_of<S>(texture: &Texture, sampler: S) -> BoundSampler<'_, S>
+    ensures texture { result.texture.now ≡ texture.now }
+    ensures sampler { result.sampler ≡ sampler }
+{
+    BoundSampler { texture, sampler }
+}
 
 // Returns the same texture. `raw` must be the texture's. The compiler then knows its value.
 #[inline(always)]

@@ -1,10 +1,13 @@
-// Drawers of the rows of textured triangles.
-ghost use Rattle.std.specs.Prelude.{ℕ, ◌≡◌, List};
-ghost use Rattle.span_lanes.specs.ClipRect.{IsClipHazardFree};
+// Drawers of the rows of textured triangles, their methods, and what all rows share.
+ghost use Rattle.std.specs.Prelude.{ℕ, ◌≡◌, List, IfSome, IsTrue, false};
+ghost use Rattle.span_lanes.specs.ClipRect.{IsClipHazardFree, IsClipRect};
 ghost use Rattle.span_lanes.specs.SpanDrawer.{state_of};
-ghost use Rattle.span_lanes.specs.TriangleDrawer.{IsFreeIn, textured_state};
+ghost use Rattle.span_lanes.specs.TriangleDrawer.{IsFreeIn, textured_state, AreContiguous, DoesNotWrap, SuitsMethod};
+ghost use Rattle.texel_lanes.specs.Texture.{IsTexture};
 
-use crate::span::empty_span;
+use crate::hazard::is_clip_hazard_free;
+use crate::shading::{has_undithered_clut16, one_color};
+use crate::span::{empty_span, is_opaque};
 use crate::{Brush, ClipRect, RowDrawer, Run, Span, Texture};
 use edge_walk::Tri;
 use std::sync::ledger::Ledger;
@@ -93,4 +96,65 @@ impl<M: TexelMethod> RowDrawer for TriangleDrawer<M> {
         self.span.n = run.n;
         self.method.draw_row(vram, &self.span, steps);
     }
+}
+
+/// How the rows of a triangle are drawn that read nothing that they write.
+#[derive(Clone, Copy)]
+pub enum RowMethod {
+    /// Contiguous texels of four bits under one colour: the CLUT is coloured once, and no pixel is blended or tested
+    /// ([`CachedClutMethod`](crate::CachedClutMethod)).
+    CachedClut { color: u32 },
+    /// Contiguous texels ([`ContiguousMethod`](crate::ContiguousMethod)).
+    Contiguous,
+    /// Texels by their coordinates, under one colour ([`FlatTexelsMethod`](crate::FlatTexelsMethod)).
+    FlatTexelsByCoords { color: u32 },
+    /// Texels by their coordinates, under several colours ([`GouraudTexelsMethod`](crate::GouraudTexelsMethod)).
+    GouraudTexels,
+}
+
+// Returns whether the cells of the texels of any column do not wrap. At depths 0 and 1, the sixteen cells after the page
+// must not wrap either.
+#[inline(always)]
+fn never_wraps(texture: &Texture) -> bool
+    ensures { IsTrue result → DoesNotWrap texture.now }
+{
+    match texture.page.depth {
+        0 => texture.page.x <= 1024 - (256 / 4 + 16),
+        1 => texture.page.x <= 1024 - (256 / 2 + 16),
+        _ => texture.page.x <= 1024 - 256,
+    }
+}
+
+// Returns whether the texels of each row are known to be contiguous.
+#[inline(always)]
+pub(crate) fn is_contiguous(tri: &Tri, texture: &Texture) -> bool
+    ensures { IsTrue result → IsTexture texture.now → AreContiguous tri.now texture.now }
+{
+    let room = never_wraps(texture);
+    tri.is_unscaled() && texture.window.mask_x == 0 && room
+}
+
+/// Returns how the rows of a triangle are drawn in a clip rectangle. `None` if that may have a cell of the texture page
+/// or the CLUT: then [`SpanDrawer`](crate::SpanDrawer) draws them, and tests each row.
+#[inline(always)]
+pub fn row_method(
+    tri: &Tri,
+    texture: &Texture,
+    brush: &Brush,
+    clip_rect: &ClipRect,
+) -> Option<RowMethod>
+    requires clip_rect { IsClipRect 1024 clip_rect.now }
+    requires texture { IsTexture texture.now }
+    ensures { IfSome result (SuitsMethod tri.now texture.now brush.now clip_rect.now) }
+{
+    if !is_clip_hazard_free(clip_rect, texture) {
+        return None;
+    }
+    let opaque = has_undithered_clut16(texture, brush) && is_opaque(brush);
+    Some(match (one_color(tri), is_contiguous(tri, texture)) {
+        (Some(color), true) if opaque => RowMethod::CachedClut { color },
+        (_, true) => RowMethod::Contiguous,
+        (Some(color), false) => RowMethod::FlatTexelsByCoords { color },
+        (None, false) => RowMethod::GouraudTexels,
+    })
 }

@@ -4,8 +4,8 @@ ghost use Rattle.edge_walk.specs.Held.{divisor_for};
 ghost use Rattle.span_lanes.specs.SpanDrawer.{IsShadingOf};
 ghost use Rattle.span_lanes.specs.TriangleSetup.{IsSetupFor};
 
-use crate::coord_planes::{CoordPlanes, coord_planes_of};
 use crate::shading::{Shading, triangle_shading};
+use crate::tex_coords::{CoordPlanes, coord_planes_of};
 use crate::{Brush, Texture};
 use edge_walk::{Divisor, Tri};
 

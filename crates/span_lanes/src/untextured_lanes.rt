@@ -1,6 +1,5 @@
 // Chunks without a texture, all their lanes at once.
-ghost use Rattle.std.specs.Prelude.{◌≡◌, ◌≤◌, ◌<◌, ◌+◌, ◌^◌, false, pos, length, slice_index};
-ghost use Rattle.std.specs.Prelude.{slice_index_or};
+ghost use Rattle.std.specs.Prelude.{◌≡◌, ◌≤◌, ◌<◌, ◌+◌, ◌^◌, false, pos, length, slice_index, slice_index_or};
 ghost use Rattle.px_num.specs.Lanes.{EachLane};
 ghost use Rattle.span_lanes.specs.Chunk.{HasChunk};
 ghost use Rattle.span_lanes.specs.Draws.{IsChunk};
@@ -10,10 +9,10 @@ ghost use Rattle.span_lanes.specs.Lanes.{AreDitherLanes, tone_with};
 ghost use Rattle.span_lanes.specs.Untextured.{CanDrawUntextured};
 
 use crate::Span;
-use crate::back::back_of;
-use crate::chunk::Chunk;
+use crate::blended::back_of;
 use crate::color_lanes::{DitherLanes, tones_of};
-use crate::row_colors::{RowColors, color_lanes_of};
+use crate::shading::{RowColors, color_lanes_of};
+use crate::span::Chunk;
 use blend_dither::{blend_lanes, tone, undithered_tone_lanes};
 use px_num::lanes::splat;
 use std::simd::prelude::*;

@@ -2,7 +2,7 @@ use Rattle.std.proofs.Common.{◌≡◌, ◌∙◌, sym, ap, subst}
 use Rattle.vram_store.specs.Vram.{height_of}
 use Rattle.span_lanes.specs.Draws.{CanDraw}
 use Rattle.span_lanes.specs.Pattern.{LiesInClip, Pattern, run_span, uniform}
-use Rattle.span_lanes.specs.declared.clip_rect.ClipRect.{ClipRect}
+use Rattle.span_lanes.specs.declared.span.ClipRect.{ClipRect}
 use Rattle.span_lanes.specs.declared.span.DrawState.{DrawState}
 use Rattle.prim_draw.specs.ClippedTriangle.{state_of}
 use Rattle.prim_draw.proofs.RunLemmas.{tri_block, tri_can_draw, tri_drawn, tri_paints}

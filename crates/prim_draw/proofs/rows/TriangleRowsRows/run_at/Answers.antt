@@ -2,7 +2,7 @@ use Rattle.std.proofs.Common.{ℕ, ◌≡◌, ◌≤◌, ◌+◌, ◌-◌, ◌-�
 use Rattle.std.proofs.Common.{subst, arith}
 use Rattle.std.proofs.lemmas.Int.{to_z-of_z, ints}
 use Rattle.edge_walk.specs.Row.{IsRowSpan}
-use Rattle.span_lanes.specs.declared.clip_rect.ClipRect.{ClipRect}
+use Rattle.span_lanes.specs.declared.span.ClipRect.{ClipRect}
 use Rattle.prim_draw.specs.Boxes.{clip_rect_of, row_box}
 use Rattle.span_lanes.specs.Pattern.{LiesInClip}
 use Rattle.prim_draw.specs.Triangles.{draws, row_inside}

@@ -1,0 +1,177 @@
+// Hazards of textured chunks, and spans and clip rectangles that are known to have none.
+ghost use Rattle.std.specs.Prelude.{ℕ, ◌≡◌, ◌≤◌, ◌<◌, ◌+◌, ◌⊎◌, ◌↔◌, Some, IsTrue, IfSome};
+ghost use Rattle.texel_lanes.specs.Texture.{IsTexture};
+ghost use Rattle.span_lanes.specs.Shade.{IsSpan, texture_of};
+ghost use Rattle.span_lanes.specs.Guard.{IsHazardFree, LiesOutsideClut, LiesOutsideColumns, LiesOutsidePage};
+ghost use Rattle.span_lanes.specs.Guard.{LiesOutsideStrip, page_width, texel_cells, palette_of, clut_strip};
+ghost use Rattle.span_lanes.specs.ClipRect.{IsClipRect, IsInClip, IsClipHazardFree};
+ghost use Rattle.overlap_guard.specs.Hazard.{HasTextureHazard, has_texture_hazard};
+ghost use Rattle.texel_lanes.specs.Texels.{AreCoordinates};
+
+use crate::{ClipRect, Paint, Span, Texture};
+use overlap_guard::lanes_hazard;
+use px_num::{Cell, Strip};
+use texel_lanes::{Coordinates, clut_row, texel_cells_of};
+
+// Returns whether the `n` columns from `x` on are none of the `width` columns from `first` on, which wrap at 1024.
+fn lies_outside_columns(first: u16, width: u16, x: u16, n: u16) -> bool
+    requires row { x + n ≤ 1024 }
+    requires strip { (first ≤ 1024) × (width ≤ 1024) }
+    ensures { IsTrue result ↔ LiesOutsideColumns first width x n }
+{
+    first + width <= x || x + n <= first && first + width <= x + 1024
+}
+
+// Returns whether row `y` is above or below the 256 rows from `page` on.
+fn lies_outside_rows(page: u16, y: u16) -> bool
+    requires { page ≤ 768 }
+    ensures { IsTrue result ↔ ((y < page) ⊎ (page + 255 < y)) }
+{
+    y < page || page + 255 < y
+}
+
+fn width_of(depth: u8) -> u16
+    ensures value { result ≡ page_width depth }
+    ensures few { result ≤ 256 }
+{
+    match depth {
+        0 => 64,
+        1 => 128,
+        _ => 256,
+    }
+}
+
+fn is_outside_page(span: &Span, texture: &Texture) -> bool
+    requires span { IsSpan span.now }
+    requires texture { IsTexture texture.now }
+    ensures { IsTrue result ↔ LiesOutsidePage texture.now span.now.x span.now.y span.now.n }
+{
+    lies_outside_rows(texture.page.y, span.y)
+        || lies_outside_columns(texture.page.x, width_of(texture.page.depth), span.x, span.n)
+}
+
+// Returns true only if the span has no cell of the strip.
+fn is_off_strip(span: &Span, strip: &Strip) -> bool
+    requires span { IsSpan span.now }
+    requires strip { (strip.now.x ≤ 1024) × (strip.now.n ≤ 1024) }
+    ensures { IsTrue result → LiesOutsideStrip strip.now span.now.x span.now.y span.now.n }
+{
+    strip.y != span.y || lies_outside_columns(strip.x, strip.n, span.x, span.n)
+}
+
+// Returns true only if the texture has no palette, or the span has no cell of it.
+pub(crate) fn is_off_clut(span: &Span, texture: &Texture) -> bool
+    requires span { IsSpan span.now }
+    ensures { IsTrue result → LiesOutsideClut texture.now span.now.x span.now.y span.now.n }
+{
+    match palette(texture) {
+        None => true,
+        Some(strip) => is_off_strip(span, &strip),
+    }
+}
+
+// Returns true only if the span has no hazard. Its cells are then outside the texture page and the palette, if any.
+pub(crate) fn is_hazard_free(span: &Span, texture: &Texture) -> bool
+    requires span { IsSpan span.now }
+    requires texture { texture_of span.now.paint ≡ Some texture.now }
+    ensures { IsTrue result → IsHazardFree span.now }
+{
+    is_outside_page(span, texture) && is_off_clut(span, texture)
+}
+
+// Returns true only if all cells of the clip rectangle are outside the texture page: above or below its rows, or to the
+// left or right of its columns.
+pub(crate) fn is_clip_outside_page(clip_rect: &ClipRect, texture: &Texture) -> bool
+    requires clip_rect { IsClipRect 1024 clip_rect.now }
+    requires texture { IsTexture texture.now }
+    ensures { IsTrue result → (x y n : ℕ) → IsInClip clip_rect.now x y n → LiesOutsidePage texture.now x y n }
+{
+    let ClipRect { x, y, w, h } = *clip_rect;
+    let page = texture.page;
+    y + h <= page.y || page.y + 255 < y || lies_outside_columns(page.x, width_of(page.depth), x, w)
+}
+
+// Returns true only if the clip rectangle has no cell of the strip: this is above or below its rows, or in none of its
+// columns.
+fn is_clip_off_strip(clip_rect: &ClipRect, strip: &Strip) -> bool
+    requires clip_rect { IsClipRect 1024 clip_rect.now }
+    requires strip { (strip.now.x ≤ 1024) × (strip.now.n ≤ 1024) }
+    ensures { IsTrue result → (x y n : ℕ) → IsInClip clip_rect.now x y n → LiesOutsideStrip strip.now x y n }
+{
+    let ClipRect { x, y, w, h } = *clip_rect;
+    strip.y < y || y + h <= strip.y || lies_outside_columns(strip.x, strip.n, x, w)
+}
+
+// Returns true only if the texture has no palette, or the clip rectangle has no cell of it.
+pub(crate) fn is_clip_off_clut(clip_rect: &ClipRect, texture: &Texture) -> bool
+    requires clip_rect { IsClipRect 1024 clip_rect.now }
+    ensures { IsTrue result → (x y n : ℕ) → IsInClip clip_rect.now x y n → LiesOutsideClut texture.now x y n }
+{
+    match palette(texture) {
+        None => true,
+        Some(strip) => is_clip_off_strip(clip_rect, &strip),
+    }
+}
+
+// Returns true only if no span in the clip rectangle has a hazard. The rectangle then has no cell of the texture page
+// or of the palette, if any.
+pub(crate) fn is_clip_hazard_free(clip_rect: &ClipRect, texture: &Texture) -> bool
+    requires clip_rect { IsClipRect 1024 clip_rect.now }
+    requires texture { IsTexture texture.now }
+    ensures { IsTrue result → IsClipHazardFree clip_rect.now texture.now }
+{
+    is_clip_outside_page(clip_rect, texture) && is_clip_off_clut(clip_rect, texture)
+}
+
+fn texture_of(paint: &Paint) -> Option<Texture>
+    ensures { result ≡ texture_of paint.now }
+{
+    match paint {
+        Paint::Flat { .. } => None,
+        Paint::Shaded { .. } => None,
+        Paint::TexturedTri { texture, .. } => Some(*texture),
+        Paint::TexturedRow { texture, .. } => Some(*texture),
+    }
+}
+
+// Returns the cells of the texture's palette, if it has one. Their columns wrap at 1024.
+fn palette(texture: &Texture) -> Option<Strip>
+    ensures value { result ≡ palette_of texture.now }
+    ensures fits { IfSome result (λ strip. (strip.x ≤ 1024) × (strip.n ≤ 1024)) }
+{
+    match texture.page.depth {
+        0 => Some(strip_of(texture.clut, 16)),
+        1 => Some(strip_of(texture.clut, 256)),
+        _ => None,
+    }
+}
+
+fn strip_of(clut: u16, n: u16) -> Strip
+    ensures value { result ≡ clut_strip clut n }
+    ensures fits { result.x ≤ 1024 }
+{
+    Strip {
+        x: clut % 64 * 16,
+        y: clut_row(clut),
+        n,
+    }
+}
+
+// Returns whether a chunk has a hazard: a cell reads as its texel one that an earlier cell writes, or is a cell of the
+// palette. The chunk has `k` cells, 1 to 16, from `to` on, and does not pass the end of the row. `at` has the
+// coordinates of their texels.
+#[inline(always)]
+pub(crate) fn reads_itself(texture: &Texture, at: &Coordinates, to: Cell, k: u8) -> bool
+    requires texture { IsTexture texture.now }
+    requires at { AreCoordinates at.now.us × AreCoordinates at.now.vs }
+    requires some { 1 ≤ k }
+    requires few { k ≤ 16 }
+    requires target { to.x + k ≤ 1024 }
+    ensures pairs { IsTrue result
+        ↔ HasTextureHazard (texel_cells texture.now at.now.us at.now.vs k) (palette_of texture.now) to k }
+    ensures value { result
+        ≡ has_texture_hazard (texel_cells texture.now at.now.us at.now.vs k) (palette_of texture.now) to k }
+{
+    let places = texel_cells_of(texture, at);
+    lanes_hazard(places.xs, places.ys, palette(texture), to, k)
+}
