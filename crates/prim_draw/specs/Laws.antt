@@ -14,7 +14,7 @@ CostLaw = (r : Registers) (p : Packet) → draw_cost r p ≤ box_cost r p
 abbrev pub open_registers : (e1 : ℕ) → Registers
 open_registers e1 = record (reset 0 512) { e1 = e1; bottom_right = 0x7ffff }
 
--- a rectangle of raw texels, from the first texel of the page on, with the palette that begins at (0, 0)
+-- a rectangle of raw texels, from the first texel of the page on, with the CLUT that begins at (0, 0)
 abbrev pub raw_rectangle : (x y w h : ℕ) → Packet
 raw_rectangle x y w h = packet.Rect (pos x) (pos y) w h 0 true false true 0 0 0
 

@@ -11,7 +11,7 @@ use Rattle.texel_lanes.specs.declared.texture.Texture.{Texture}
 unfoldable pub placed : Registers → Vertex → Vertex
 placed r p = record { x = p.x +ℤ offset_x r; y = p.y +ℤ offset_y r; color = p.color; u = p.u; v = p.v }
 
--- the texture page with a packet's palette
+-- the texture page with a packet's CLUT
 unfoldable pub texture_in : Registers → ℕ → Bool → Texture
 texture_in r clut raw = record { page = page_in r; window = window_in r; clut = clut; raw = raw }
 

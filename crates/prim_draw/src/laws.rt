@@ -12,7 +12,7 @@ pub fn costs_are_small()
 /// Limits on the cost of five packets:
 ///
 /// - four raw 15-bit texels, each in the cell to the left of the one that is drawn;
-/// - three raw 4-bit texels, drawn over the first cells of their palette;
+/// - three raw 4-bit texels, drawn over the first cells of their CLUT;
 /// - 32 raw 15-bit texels in another row;
 /// - the upper left half of a white square of 8 by 8 cells;
 /// - the whole square, semi-transparent.

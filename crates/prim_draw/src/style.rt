@@ -15,7 +15,7 @@ pub(crate) struct Style {
     pub(crate) semi: bool,
     /// Whether its texels are raw.
     pub(crate) raw: bool,
-    /// The palette attribute.
+    /// The CLUT attribute.
     pub(crate) clut: u16,
     /// The command's colour, used if it is not shaded.
     pub(crate) color: u32,

@@ -38,7 +38,7 @@ same_cell m now x y j cx cy agree low room hazard_free = elim (cases_lt cy y) [
   ]
 ]
 
--- the palette of a depth
+-- the CLUT of a depth
 abbrev palette_at : ℕ → ℕ → (Cell → ℕ → Type 0)
 palette_at depth clut target n =
     MatchOption (cond (eqb depth 0) (Some (clut_strip clut 16)) (cond (eqb depth 1) (Some (clut_strip clut 256)) None))

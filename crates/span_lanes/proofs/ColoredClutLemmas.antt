@@ -1,4 +1,4 @@
--- Texels drawn through a modulated palette.
+-- Texels drawn through a modulated CLUT.
 use Rattle.std.proofs.Common.{◌≡◌, ◌≤◌, ◌<◌, ℕ, List, ◌+◌, ◌*◌, sym, ◌∙◌, arith, Option, None, Some, inr}
 use Rattle.std.specs.Prelude.{IfSome}
 use Rattle.texture_page.specs.Page.{clut_place}
@@ -15,7 +15,7 @@ use Rattle.span_lanes.specs.ColoredClut.{IsColoredClut, AreClutEntries, IsColore
 use Rattle.span_lanes.specs.ColoredClut.{IsColoredBy}
 use Rattle.span_lanes.proofs.BlindLemmas.{same_cell}
 
--- a chunk of a span without a hazard has no cell of the palette
+-- a chunk of a span without a hazard has no cell of the CLUT
 pub clut_missed : (span : Span) (t : Texture) (first k : ℕ) → texture_of span.paint ≡ Some t → t.page.depth ≡ 0
     → (HasHazard span first k → ⊥) → HasStripHazard (clut_strip t.clut 16) (target span.x span.y first) k → ⊥
 clut_missed span t first k of_paint four none hazard =
@@ -23,7 +23,7 @@ clut_missed span t first k of_paint four none hazard =
     = rw four hazard in
     none (rw of_paint (inr strip))
 
--- a chunk that has no cell of the palette does not change it
+-- a chunk that has no cell of the CLUT does not change it
 pub swatches_kept : (t : Texture) (x y k : ℕ) (m now : List ℕ) (colored_clut : ColoredClut)
     → AgreesApart (1024 * y + x) k m now → x + k ≤ 1024
     → (HasStripHazard (clut_strip t.clut 16) (record { x = x; y = y }) k → ⊥)

@@ -1,4 +1,4 @@
--- Spans that have no cell of their texture or palette.
+-- Spans that have no cell of their texture or CLUT.
 use Rattle.std.proofs.Common.{◌≡◌, ◌<◌, ◌≤◌, ℕ, Option, None, Some, Bool, true, false, cond, eqb, ◌+◌, ◌-◌, ◌*◌, ◌/◌}
 use Rattle.std.proofs.Common.{◌%◌, ◌∙◌, inl, inr, map, refl, arith}
 use Rattle.std.specs.Prelude.{IfSome}
@@ -51,7 +51,7 @@ texel_apart t x y n u v cx is (inr (inr left)) room low high across down =
     (windowed_small t.window.mask_x t.window.off_x u is.window.mask_x) in
     omega (arith, col, left.0, left.1)
 
--- a chunk of a row that has no cell of the palette
+-- a chunk of a row that has no cell of the CLUT
 strip_apart : (palette : Option Strip) (x y n first k : ℕ)
     → IfSome palette (λ strip. LiesOutsideStrip strip x y n) → x + n ≤ 1024 → first + k ≤ n
     → MatchOption palette ⊥ (λ strip. HasStripHazard strip (target x y first) k) → ⊥

@@ -40,7 +40,7 @@ whole_texel span t s x i h m is deep lt at read =
     (texel_direct t (paint_u span.paint x span.y i) (paint_v span.paint x span.y i) m
     (texel_place t.page t.window (paint_u span.paint x span.y i) (paint_v span.paint x span.y i)) deep refl)
 
--- a texel of four bits, from its palette entry
+-- a texel of four bits, from its CLUT entry
 pub four_texel : (span : Span) (t : Texture) (s : TexelRun) (x i e : ℕ) (m : List ℕ) → IsTexelRun span t s
     → t.page.depth ≡ 0 → i < span.n → x ≡ span.x + i
     → e ≡ get_or m
@@ -55,7 +55,7 @@ four_texel span t s x i e m is four lt at entry =
     texel_four t _ _ m (s.u + i) (get_or m (1024 * s.y + (t.page.x + (s.u + i) / 4)) 0) e four (sym column)
     (rw (four, column, row, here) refl) entry
 
--- a texel of eight bits, from its palette entry
+-- a texel of eight bits, from its CLUT entry
 pub eight_texel : (span : Span) (t : Texture) (s : TexelRun) (x i e : ℕ) (m : List ℕ) → IsTexelRun span t s
     → t.page.depth ≡ 1 → i < span.n → x ≡ span.x + i
     → e ≡ at_cell m

@@ -20,21 +20,21 @@ pub record CanTakeTexels (s : Span) (t : Texture) (found : Type 0) (m : List ℕ
   pub hazard_free : IsHazardFree s
   pub finds : found
 
--- such a span of one colour whose palette of sixteen entries can be modulated once
+-- such a span of one colour whose CLUT of sixteen entries can be modulated once
 pub record CanColorClut (s : Span) (t : Texture) (found : Type 0) (color : ℕ) (m : List ℕ) : Type 0 where
   pub sample : CanSample s t m
   pub suits : CanCacheClut s t
   pub finds : found
   pub hue : AreRowColors s.paint s.x s.y s.n (One color)
 
--- such a span whose modulated palette is cached
+-- such a span whose modulated CLUT is cached
 pub record CanUseCached (s : Span) (t : Texture) (found : Type 0) (cached : ColoredClut) (m : List ℕ) : Type 0 where
   pub can : CanColorClut s t found cached.color m
   pub raw : cached.raw ≡ t.raw
   pub colored : IsColoredClut cached
   pub entries : IsColoredClutOf t m cached
 
--- sixteen palette indexes, the first of them those of the texels of a chunk
+-- sixteen CLUT indexes, the first of them those of the texels of a chunk
 pub record HasIndexes (t : Texture) (p : Chunk) (m lanes : List ℕ) : Type 0 where
   pub bytes : AreBytes lanes
   pub low : EachLane (λ i. slice_index lanes i < 16)

@@ -1,4 +1,4 @@
--- A palette of sixteen entries, modulated by one colour.
+-- A CLUT of sixteen entries, modulated by one colour.
 use Rattle.std.specs.Prelude.{ℕ, ◌≡◌, ◌&&◌, not, false, pos, List}
 use Rattle.std.specs.Prelude.{Bool, Option, None, Some, IfSome}
 use Rattle.px_num.specs.Lanes.{EachLane}
@@ -13,7 +13,7 @@ use Rattle.span_lanes.specs.Guard.{IsHazardFree}
 use Rattle.span_lanes.specs.Shade.{modulated_texel, texture_of}
 use Rattle.texel_lanes.specs.Table.{IsTable, entry_at}
 
--- the entries of a texture's palette, and each modulated by one colour without dither
+-- the entries of a texture's CLUT, and each modulated by one colour without dither
 pub record IsColoredClutOf (t : Texture) (m : List ℕ) (colored_clut : ColoredClut) : Type 0 where
   pub entries : IsTable colored_clut.entries
   pub modulated : IsTable colored_clut.modulated
@@ -28,33 +28,33 @@ pub record IsColoredClut (colored_clut : ColoredClut) : Type 0 where
   pub front : EachLane (λ i. entry_at colored_clut.modulated i
       ≡ modulated_texel colored_clut.raw colored_clut.color (pos 0) (entry_at colored_clut.entries i))
 
--- the entries of a table are those of the texture's palette in video memory
+-- the entries of a table are those of the texture's CLUT in video memory
 abbrev pub AreClutEntries : Texture → List ℕ → Table → Type 0
 AreClutEntries t m entries = EachLane (λ i. entry_at entries i ≡ at_cell m (clut_place t.clut i))
 
--- the cached palette, if any, is that of a paint's texture in video memory, modulated by its colour
+-- the cached CLUT, if any, is that of a paint's texture in video memory, modulated by its colour
 pub record IsCached (paint : Paint) (m : List ℕ) (last : Option ColoredClut) : Type 0 where
   pub colored : IfSome last IsColoredClut
   pub fresh : IfSome last (λ s. IfSome (texture_of paint) (λ t. AreClutEntries t m s.entries))
 
--- the palette of a texture in video memory, modulated by a colour
+-- the CLUT of a texture in video memory, modulated by a colour
 pub record IsPalette (t : Texture) (m : List ℕ) (shading : ℕ) (s : ColoredClut) : Type 0 where
   pub colored : IsColoredClut s
   pub colored_clut : IsColoredClutOf t m s
   pub raw : s.raw ≡ t.raw
   pub color : s.color ≡ shading
 
--- such a palette is cached
+-- such a CLUT is cached
 abbrev pub HasPalette : Texture → (m : List ℕ) → (shading : ℕ) → Option ColoredClut → Type 0
 HasPalette t m shading None = ⊥
 HasPalette t m shading (Some s) = IsPalette t m shading s
 
--- the cached palette is modulated by this colour, or raw
+-- the cached CLUT is modulated by this colour, or raw
 abbrev pub IsColoredBy : Option ColoredClut → (raw : Bool) → (color : ℕ) → Type 0
 IsColoredBy None raw color = ⊥
 IsColoredBy (Some s) raw color = (s.raw ≡ raw) × (s.color ≡ color)
 
--- a span whose palette of sixteen entries can be modulated once for all its cells
+-- a span whose CLUT of sixteen entries can be modulated once for all its cells
 pub record CanCacheClut (span : Span) (t : Texture) : Type 0 where
   pub hazard_free : IsHazardFree span
   pub depth : t.page.depth ≡ 0

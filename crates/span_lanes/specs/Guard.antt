@@ -26,7 +26,7 @@ paint_texels paint t x y first n = map (paint_texel paint t x y) (range_with_len
 abbrev pub clut_strip : ℕ → ℕ → Strip
 clut_strip clut n = record { x = clut % 64 * 16; y = clut_row clut; n = n }
 
--- the palette that a texture reads: sixteen entries at depth 0, 256 at depth 1
+-- the CLUT that a texture reads: sixteen entries at depth 0, 256 at depth 1
 abbrev pub palette_of : Texture → Option Strip
 palette_of t =
     if t.page.depth == 0 then Some (clut_strip t.clut 16)
@@ -38,7 +38,7 @@ abbrev pub target : ℕ → ℕ → ℕ → Cell
 target x y first = record { x = x + first; y = y }
 
 -- n cells of a row that begins at (x, y), from cell `first` on, have a hazard: one reads as its texel a cell that an
--- earlier one writes, or one writes a cell of the palette
+-- earlier one writes, or one writes a cell of the CLUT
 abbrev pub PaintHazard : Paint → ℕ → ℕ → ℕ → ℕ → Type 0
 PaintHazard paint x y first n =
     MatchOption (texture_of paint) ⊥
@@ -87,7 +87,7 @@ LiesOutsidePage t x y n =
 abbrev pub LiesOutsideStrip : Strip → ℕ → ℕ → ℕ → Type 0
 LiesOutsideStrip strip x y n = (strip.y ≢ y) ⊎ LiesOutsideColumns strip.x strip.n x n
 
--- n cells of a row from (x, y) on are none of a texture's palette, if it has one
+-- n cells of a row from (x, y) on are none of a texture's CLUT, if it has one
 abbrev pub LiesOutsideClut : Texture → ℕ → ℕ → ℕ → Type 0
 LiesOutsideClut t x y n = IfSome (palette_of t) (λ strip. LiesOutsideStrip strip x y n)
 

@@ -18,7 +18,7 @@ SpanLaw =
 abbrev pub CostLaw : Type 0
 CostLaw = (span : Span) → span_cost span ≤ 4 * span.n
 
--- a raw texture without a window, with the palette that begins at (0, 0)
+-- a raw texture without a window, with the CLUT that begins at (0, 0)
 abbrev pub raw_texture : Page → Texture
 raw_texture page = record {
   page = page;
@@ -27,7 +27,7 @@ raw_texture page = record {
   raw = true;
 }
 
--- n cells from (x, y) on of raw texels, from the first texel of a page on, with the palette that begins at (0, 0)
+-- n cells from (x, y) on of raw texels, from the first texel of a page on, with the CLUT that begins at (0, 0)
 abbrev pub raw_row : Page → ℕ → ℕ → ℕ → Span
 raw_row page x y n = record {
   x = x;

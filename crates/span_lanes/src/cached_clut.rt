@@ -1,4 +1,4 @@
-// Spans of four-bit texels whose palette is modulated once.
+// Spans of four-bit texels whose CLUT is modulated once.
 ghost use Rattle.std.specs.Prelude.{◌≡◌, IsTrue};
 ghost use Rattle.span_lanes.specs.Draws.{DrawsSpan, at_stage};
 ghost use Rattle.span_lanes.specs.Guard.{IsHazardFree};
@@ -17,7 +17,7 @@ use crate::{Span, Texture};
 use std::sync::ledger::Ledger;
 use vram_store::{Steps, Vram};
 
-// Returns true only if the palette can be modulated once for the whole span: texels have four bits, and pixels are not
+// Returns true only if the CLUT can be modulated once for the whole span: texels have four bits, and pixels are not
 // dithered. The span must have no hazard.
 #[inline(always)]
 pub(crate) fn can_cache_clut(span: &Span, texture: &Texture) -> bool
@@ -27,7 +27,7 @@ pub(crate) fn can_cache_clut(span: &Span, texture: &Texture) -> bool
     has_undithered_clut16(texture, &span.brush)
 }
 
-// Returns the chunk drawer of these texels, with the modulated palette `colored_clut`.
+// Returns the chunk drawer of these texels, with the modulated CLUT `colored_clut`.
 #[inline(always)]
 fn cached_under<'a, S: Copy>(
     texels: &FlatTexels<S>,
@@ -44,7 +44,7 @@ fn cached_under<'a, S: Copy>(
     }
 }
 
-// Draws a span with its modulated palette, which is then cached in `last`, by one loop for all pixel settings. Entries
+// Draws a span with its modulated CLUT, which is then cached in `last`, by one loop for all pixel settings. Entries
 // in `last` must equal those in video memory.
 #[inline(always)]
 pub(crate) fn draw_cached<S: IndexSampler + Copy, L: Ledger>(
@@ -66,7 +66,7 @@ pub(crate) fn draw_cached<S: IndexSampler + Copy, L: Ledger>(
     }
 }
 
-// Draws a span with its modulated palette, by one of four loops: raw or modulated, opaque or not.
+// Draws a span with its modulated CLUT, by one of four loops: raw or modulated, opaque or not.
 #[inline(always)]
 fn draw_by_raw<L: Ledger>(
     vram: &mut Vram,

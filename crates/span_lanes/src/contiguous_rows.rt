@@ -18,7 +18,7 @@ use crate::triangle_setup::TriangleSetup;
 use std::sync::ledger::Ledger;
 use vram_store::{Steps, Vram};
 
-// Draws a span of contiguous texels. It must have no hazard. If the palette can be modulated once, caches it in `last`;
+// Draws a span of contiguous texels. It must have no hazard. If the CLUT can be modulated once, caches it in `last`;
 // otherwise sets `last` to `None`. Entries in `last` must equal those in video memory.
 #[inline(always)]
 pub(crate) fn draw_contiguous<L: Ledger>(

@@ -8,12 +8,12 @@
 // - `Untextured`, five in `draw_flat`: one colour that is blended, one loop for each mode [rectangle B+F], or that is
 //   tested or dithered.
 // - `Untextured`, two in `draw_gouraud`: three channels that change along the row, opaque or not. [triangle gouraud]
-// - `CachedClut<TexelRun>`, in `CachedClutMethod::draw_row`: a cached palette and opaque pixels. The loop is inlined
+// - `CachedClut<TexelRun>`, in `CachedClutMethod::draw_row`: a cached CLUT and opaque pixels. The loop is inlined
 //   into the loop over the rows. [triangle 4-bit modulated]
 // - `CachedClut<&CoordRamps>` and `Shaded<&CoordRamps>`, in `draw_flat_texels`: texels by coordinates under one colour,
 //   without a hazard. No workload runs them.
 // - `GouraudTexels`, in `draw_gouraud_texels`: the same under several colours. [triangle turned, gouraud, dithered]
-// - `CachedClut<TexelRun>`, four in `draw_cached_run`: a cached palette for other spans, raw or not, opaque or not.
+// - `CachedClut<TexelRun>`, four in `draw_cached_run`: a cached CLUT for other spans, raw or not, opaque or not.
 // - `Raw<FourBitRun>`, `Raw<EightBitRun>`, `Raw<FifteenBitRun>`, each opaque or not, in `draw_raw`: contiguous raw
 //   texels. [triangle 15-bit raw]
 // - `Shaded` of the same three, each opaque or not, in `draw_shaded`: contiguous modulated texels. [rectangle 8-bit
@@ -22,7 +22,7 @@
 //   is flipped], and in `draw_tri`, if spans in the triangle's clip rectangle may have a hazard. In such a rectangle
 //   contiguous rows without a hazard are drawn by the loops above. [triangle 15-bit raw, edge of its page]
 //
-// Rectangles that cache their palette for all rows have four more loops of `CachedClut<TexelRun>`, in
+// Rectangles that cache their CLUT for all rows have four more loops of `CachedClut<TexelRun>`, in
 // `CachedClutRows::draw_row`. [rectangle, sprite 4-bit]
 ghost use Rattle.std.specs.Prelude.{◌≡◌};
 ghost use Rattle.span_lanes.specs.Draws.{CanDraw, DrawsSpan, at_stage};

@@ -159,8 +159,8 @@ impl ChunkDrawer for RowSetup {
     ghost can = { λ c s m serves. serves.0 };
 }
 
-// Draws a textured span by the coordinates of its texels. If its palette can be modulated once, draws with the cached
-// palette `last`. Otherwise sets `last` to `None`; chunks that may have a hazard are tested first. Entries in `last`
+// Draws a textured span by the coordinates of its texels. If its CLUT can be modulated once, draws with the cached
+// CLUT `last`. Otherwise sets `last` to `None`; chunks that may have a hazard are tested first. Entries in `last`
 // must equal those in video memory.
 #[inline(always)]
 pub(crate) fn draw_by_coords<L: Ledger>(

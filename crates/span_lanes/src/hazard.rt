@@ -59,7 +59,7 @@ fn is_off_strip(span: &Span, strip: &Strip) -> bool
     strip.y != span.y || lies_outside_columns(strip.x, strip.n, span.x, span.n)
 }
 
-// Returns true only if the texture has no palette, or the span has no cell of it.
+// Returns true only if the texture has no CLUT, or the span has no cell of it.
 pub(crate) fn is_off_clut(span: &Span, texture: &Texture) -> bool
     requires span { IsSpan span.now }
     ensures { IsTrue result → LiesOutsideClut texture.now span.now.x span.now.y span.now.n }
@@ -70,7 +70,7 @@ pub(crate) fn is_off_clut(span: &Span, texture: &Texture) -> bool
     }
 }
 
-// Returns true only if the span has no hazard. Its cells are then outside the texture page and the palette, if any.
+// Returns true only if the span has no hazard. Its cells are then outside the texture page and the CLUT, if any.
 pub(crate) fn is_hazard_free(span: &Span, texture: &Texture) -> bool
     requires span { IsSpan span.now }
     requires texture { texture_of span.now.paint ≡ Some texture.now }
@@ -102,7 +102,7 @@ fn is_clip_off_strip(clip_rect: &ClipRect, strip: &Strip) -> bool
     strip.y < y || y + h <= strip.y || lies_outside_columns(strip.x, strip.n, x, w)
 }
 
-// Returns true only if the texture has no palette, or the clip rectangle has no cell of it.
+// Returns true only if the texture has no CLUT, or the clip rectangle has no cell of it.
 pub(crate) fn is_clip_off_clut(clip_rect: &ClipRect, texture: &Texture) -> bool
     requires clip_rect { IsClipRect 1024 clip_rect.now }
     ensures { IsTrue result → (x y n : ℕ) → IsInClip clip_rect.now x y n → LiesOutsideClut texture.now x y n }
@@ -114,7 +114,7 @@ pub(crate) fn is_clip_off_clut(clip_rect: &ClipRect, texture: &Texture) -> bool
 }
 
 // Returns true only if no span in the clip rectangle has a hazard. The rectangle then has no cell of the texture page
-// or of the palette, if any.
+// or of the CLUT, if any.
 pub(crate) fn is_clip_hazard_free(clip_rect: &ClipRect, texture: &Texture) -> bool
     requires clip_rect { IsClipRect 1024 clip_rect.now }
     requires texture { IsTexture texture.now }
@@ -134,7 +134,7 @@ fn texture_of(paint: &Paint) -> Option<Texture>
     }
 }
 
-// Returns the cells of the texture's palette, if it has one. Their columns wrap at 1024.
+// Returns the cells of the texture's CLUT, if it has one. Their columns wrap at 1024.
 fn palette(texture: &Texture) -> Option<Strip>
     ensures value { result ≡ palette_of texture.now }
     ensures fits { IfSome result (λ strip. (strip.x ≤ 1024) × (strip.n ≤ 1024)) }
@@ -158,7 +158,7 @@ fn strip_of(clut: u16, n: u16) -> Strip
 }
 
 // Returns whether a chunk has a hazard: a cell reads as its texel one that an earlier cell writes, or is a cell of the
-// palette. The chunk has `k` cells, 1 to 16, from `to` on, and does not pass the end of the row. `at` has the
+// CLUT. The chunk has `k` cells, 1 to 16, from `to` on, and does not pass the end of the row. `at` has the
 // coordinates of their texels.
 #[inline(always)]
 pub(crate) fn reads_itself(texture: &Texture, at: &Coordinates, to: Cell, k: u8) -> bool

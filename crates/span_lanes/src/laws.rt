@@ -16,7 +16,7 @@ pub fn span_cost_is_small()
 /// Limits on the cost of three rows of raw texels:
 ///
 /// - four 15-bit texels, each in the cell to the left of the one that is drawn;
-/// - three 4-bit texels, drawn over the first cells of their palette;
+/// - three 4-bit texels, drawn over the first cells of their CLUT;
 /// - 32 15-bit texels in another row.
 pub fn some_costs()
     ensures smeared { span_cost (raw_row (record { x = 0; y = 0; depth = 2 }) 1 0 4) ≤ 12 }

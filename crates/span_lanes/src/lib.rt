@@ -2,10 +2,10 @@
 //!
 //! A span is one or more consecutive cells of a row, drawn from left to right. Every pixel reads video memory as it is
 //! when that pixel is drawn (our own rule). It reads its own cell if it is blended or tested, its texel, and the
-//! palette (CLUT) entry of the texel.
+//! CLUT (palette) entry of the texel.
 //!
 //! A span is cut from its left into chunks of sixteen cells; the last may be shorter. A chunk has a hazard if one of
-//! its cells is in the palette, or contains the texel of a later cell of the chunk. A chunk without a hazard is read as
+//! its cells is in the CLUT, or contains the texel of a later cell of the chunk. A chunk without a hazard is read as
 //! a whole and stored at once. Other chunks are drawn cell after cell. So the result always equals that of drawing one
 //! cell after another.
 //!

@@ -59,7 +59,7 @@ pub(crate) fn modulated_texels<H: ColorSource>(
     }
 }
 
-// The sixteen entries of a palette, and the same entries modulated by `color`, or unchanged if `raw` is true.
+// The sixteen entries of a CLUT, and the same entries modulated by `color`, or unchanged if `raw` is true.
 #[derive(Clone, Copy)]
 pub(crate) struct ColoredClut {
     pub(crate) raw: bool,
@@ -75,7 +75,7 @@ pub(crate) struct ModulatedTexels {
     pub(crate) modulated: u16x16,
 }
 
-// Returns sixteen palette entries, and the same entries modulated by `color`, or unchanged if `raw` is true.
+// Returns sixteen CLUT entries, and the same entries modulated by `color`, or unchanged if `raw` is true.
 #[inline(always)]
 fn colored(raw: bool, color: u32, entries: u16x16) -> ColoredClut
     requires { length entries ≡ 16 }
@@ -92,7 +92,7 @@ fn colored(raw: bool, color: u32, entries: u16x16) -> ColoredClut
     }
 }
 
-// Returns whether a palette is cached with this `raw` and `color`.
+// Returns whether a CLUT is cached with this `raw` and `color`.
 #[inline(always)]
 fn is_colored_by(last: &Option<ColoredClut>, raw: bool, color: u32) -> bool
     ensures { IsTrue result → IsColoredBy last.now raw color }
@@ -103,7 +103,7 @@ fn is_colored_by(last: &Option<ColoredClut>, raw: bool, color: u32) -> bool
     }
 }
 
-// Makes `last` the texture's palette, modulated by `color`, or unchanged if the texture is raw. Reads nothing if `last`
+// Makes `last` the texture's CLUT, modulated by `color`, or unchanged if the texture is raw. Reads nothing if `last`
 // is already so. Entries in `last` must equal those in video memory. Costs at most one step.
 #[inline(always)]
 #[tactic(auto, using(crate::proofs::ColoredClutLemmas::palette_is, crate::proofs::ColoredClutLemmas::palette_kept))]
@@ -125,7 +125,7 @@ pub(crate) fn cache_clut<L: Ledger>(
     }
 }
 
-// Returns the palette entries at sixteen indexes below 16, and the same entries modulated. `raw` must be that of
+// Returns the CLUT entries at sixteen indexes below 16, and the same entries modulated. `raw` must be that of
 // `colored_clut`.
 #[inline(always)]
 #[tactic(auto, unfolding(crate::specs::Shade::modulated_texel))]
@@ -153,7 +153,7 @@ pub(crate) fn texels_by_index(
     ModulatedTexels { texels, modulated }
 }
 
-// Returns true only if the palette can be modulated once for the whole span. It then has sixteen entries, and the span
+// Returns true only if the CLUT can be modulated once for the whole span. It then has sixteen entries, and the span
 // has no hazard and no dither.
 pub(crate) fn suits(span: &Span, row_setup: &RowSetup) -> bool
     requires row_setup { IsRowSetup span.now row_setup.now }

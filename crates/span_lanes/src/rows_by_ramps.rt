@@ -20,7 +20,7 @@ use px_num::halves::wanted_lanes;
 use std::sync::ledger::Ledger;
 use vram_store::{Steps, Vram};
 
-// Draws a span under its colour, without a cached palette.
+// Draws a span under its colour, without a cached CLUT.
 #[inline(always)]
 fn draw_shaded<L: Ledger>(
     vram: &mut Vram,
@@ -44,7 +44,7 @@ fn draw_shaded<L: Ledger>(
     draw_chunks(vram, span, &shaded, steps);
 }
 
-// Draws a row of a triangle of one colour. It must have no hazard. If the palette can be modulated once, caches it in
+// Draws a row of a triangle of one colour. It must have no hazard. If the CLUT can be modulated once, caches it in
 // `last`; otherwise sets `last` to `None`. Entries in `last` must equal those in video memory.
 #[inline(never)]
 pub(crate) fn draw_flat_texels<L: Ledger>(

@@ -47,7 +47,7 @@ pub(crate) trait Sampler {
         ensures cost { steps.new ≤ steps.old + texel_steps texture.now.page.depth * chunk.now.k };
 }
 
-// Reads the palette indexes of a span's four-bit texels, chunk by chunk.
+// Reads the CLUT indexes of a span's four-bit texels, chunk by chunk.
 pub(crate) trait IndexSampler {
     ghost use Rattle.span_lanes.specs.declared.span.Span.{Span};
     ghost use Rattle.texel_lanes.specs.declared.texture.Texture.{Texture};
@@ -171,7 +171,7 @@ pub(crate) fn texels_by_coords<P: CoordSource, L: Ledger>(
     }
 }
 
-// Returns the palette indexes of a chunk's texels in the first `chunk.k` lanes. The texture must have depth 0. Costs at
+// Returns the CLUT indexes of a chunk's texels in the first `chunk.k` lanes. The texture must have depth 0. Costs at
 // most `chunk.k` steps.
 #[inline(always)]
 pub(crate) fn indexes_by_coords<P: CoordSource, L: Ledger>(

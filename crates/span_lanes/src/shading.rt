@@ -155,7 +155,7 @@ pub(crate) fn is_dithered(dither: bool, raw: bool) -> bool
     dither && !raw
 }
 
-// Returns whether texels have four bits and are not dithered. Then a palette entry under one colour is the same in all
+// Returns whether texels have four bits and are not dithered. Then a CLUT entry under one colour is the same in all
 // cells.
 #[inline(always)]
 pub(crate) fn has_undithered_clut16(texture: &Texture, brush: &Brush) -> bool

@@ -128,7 +128,7 @@ pub(crate) struct Shaded<S> {
     pub(crate) shading: RowShading,
 }
 
-// Draws four-bit texels with a palette that was read and modulated before.
+// Draws four-bit texels with a CLUT that was read and modulated before.
 #[derive(Clone, Copy)]
 pub(crate) struct CachedClut<'a, S> {
     pub(crate) texture: Texture,
@@ -180,7 +180,7 @@ impl<S: IndexSampler> ChunkDrawer for CachedClut<'_, S> {
 
     ghost serves = { λ c s m. CanUseCached s c.texture (S.finds c.sampler s c.texture) c.colored_clut.now m };
 
-    // The palette is not read again.
+    // The CLUT is not read again.
     ghost spared = { λ c. 1 };
 
     #[inline(always)]

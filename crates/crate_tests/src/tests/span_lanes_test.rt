@@ -98,7 +98,7 @@ fn page_at(x: u16, depth: u8) -> Page
     Page { x, y: 0, depth }
 }
 
-// Each texel was just written; the first pixel changes its own palette; a palette that wraps at column 1008.
+// Each texel was just written; the first pixel changes its own CLUT; a CLUT that wraps at column 1008.
 #[test]
 fn rows_sample_what_they_overwrite(rt: HostRuntime) -> Result<(), Fail> {
     laws::span_is_cells();

@@ -10,7 +10,7 @@ use texel_lanes::{Coordinates, OneByOne, Texture, read_texel, read_texels};
 use texture_page::{Page, Window};
 use vram_store::{Steps, Vram};
 
-// A page from column 64 on, and the palette in the first cells.
+// A page from column 64 on, and the CLUT in the first cells.
 fn texture_of(depth: u8) -> Texture
     requires { depth ≤ 3 }
     ensures page { (result.page.x ≡ 64) × (result.page.y ≡ 0) × (result.page.depth ≡ depth) }

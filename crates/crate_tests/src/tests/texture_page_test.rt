@@ -1,4 +1,4 @@
-// Texels and palette entries.
+// Texels and CLUT entries.
 use px_num::Cell;
 use texture_page::{Page, Window, clut_cell, index_of, laws, texel_cell};
 
