@@ -33,7 +33,8 @@ unfolding scaled
 scaled_is step r = scaled_by (int_lt step (pos 0)) step r refl
 
 -- a step times r, from the step modulo 2^64
-pub wrapped_is : (falls : Bool) (step size r : ℕ) → (falls ≡ true → step + size ≡ 2 ^ 64) → (falls ≡ false → step ≡ size)
+pub wrapped_is : (falls : Bool) (step size r : ℕ)
+    → (falls ≡ true → step + size ≡ 2 ^ 64) → (falls ≡ false → step ≡ size)
     → step * r % 2 ^ 64 ≡ wrapped falls (size * r % 2 ^ 64)
 wrapped_is true step size r down_ up_ = let product = ap (λ z. z * r) (down_ refl) in omega (arith, product)
 wrapped_is false step size r down_ up_ = ap (λ z. z * r % 2 ^ 64) (up_ refl)

@@ -112,8 +112,8 @@ pub enum RowMethod {
     GouraudTexels,
 }
 
-// Returns whether the cells of the texels of any column do not wrap. At depths 0 and 1, the sixteen cells after the page
-// must not wrap either.
+// Returns whether the cells of the texels of any column do not wrap. At depths 0 and 1, the sixteen cells after the
+// page must not wrap either.
 #[inline(always)]
 fn never_wraps(texture: &Texture) -> bool
     ensures { IsTrue result → DoesNotWrap texture.now }

@@ -12,7 +12,8 @@ returns-clause-value c j lt =
     let first : (c.args.x +ℤ pos 0) ≡ c.args.x = omega (arith, ints) in
     let here = subst (λ x. IsTrue (is_inside t x c.args.y)) first (c.requires.inside 0 (omega arith)) in
     let few = c.requires.lanes in
-    let line = simp to_z-of_z at (c.row_line.ensures t c.args.which (c.plane-plane.ensures t c.attribute_setup.ensures)) in
+    let setup = c.attribute_setup.ensures in
+    let line = simp to_z-of_z at (c.row_line.ensures t c.args.which (c.plane-plane.ensures t setup)) in
     let none_more : 0 + j ≡ j = omega arith in
     let there = rw none_more at (line here 0 j (omega arith)) in
     c.keep_first.ensures.value j lt ∙ c.lanes.ensures.value j (omega arith) ∙ there (c.requires.inside j lt)
