@@ -237,25 +237,3 @@ feeds_part mode was rig t counted event asked before now lacking is stands numbe
       running = stands.state.running ∙ stops.running;
       played = stands.played ∙ sym played;
     }
-
--- Nothing is written after an event that neither shows a word nor has a frame.
-pub nothing_after : (mode : Mode) (held : Option (List ℕ)) → held ≡ appended held (lines_after mode [] [])
-nothing_after mode held = sym (ap (appended held) (lines-none mode) ∙ appended-nil held)
-
--- ---- a word written to GP0
-
-module _ (mode : Mode) (was : RigState) (counted word : ℕ) (before now : Outlets) (gpu : Kept) (s : State) where
-  abbrev pub fed_now : PlayState
-  fed_now = play_state now (record was { gpu = gpu })
-
-  pub word_done : Feeds (in_event counted mode) s (word ∷ []) before (drawing now gpu)
-      → (None ≡ (done (machine_of was s) counted (operation.Feed (One word) was.running)).shown)
-      × Does (in_event counted mode) (machine_of was s) (operation.Feed (One word) was.running) before fed_now
-  word_done feeds = (
-    refl,
-    record {
-      stands = record { gpu = feeds.stands; ram = refl; running = refl };
-      heard = feeds.heard;
-      cost = feeds.cost;
-    },
-  )
