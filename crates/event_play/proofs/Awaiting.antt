@@ -1,5 +1,5 @@
 -- The state of playing a capture.
-use Rattle.std.proofs.Common.{◌≡◌, ◌≤◌, inl, inr, ℕ, suc, ◌+◌, ◌++◌, List, [], ◌∷◌, Option, Result, Ok, Err, OnOk, IfOk}
+use Rattle.std.proofs.Common.{◌≡◌, ◌≤◌, inl, inr, ℕ, ◌+◌, ◌++◌, List, [], ◌∷◌, Option, Result, Ok, Err, OnOk, IfOk}
 use Rattle.std.proofs.Common.{IfErr, Bool, cond, nat_lt, replicate, refl, ap, sym, subst, ◌∙◌, append_assoc, append-nil}
 use Rattle.std.proofs.Common.{◌<◌, ◌⊎◌, length, length-append, arith}
 use Rattle.dev_io.specs.Device.{prepended, IsAtEnd}
@@ -13,7 +13,7 @@ use Rattle.gpu_capture.proofs.Needed.{says_on}
 use Rattle.gpu_capture.proofs.Steps.{split}
 use Rattle.gpu_capture.proofs.Taken.{few_between}
 use Rattle.gpu_capture.proofs.Versions.{version_from}
-use Rattle.gpu_capture.specs.Reader.{AreNeeded, Takes, StopsAt, SaysStop, capture_from, IsStart, work_left}
+use Rattle.gpu_capture.specs.Reader.{AreNeeded, Takes, StopsAt, SaysStop, capture_from, IsStart}
 use Rattle.gpu_capture.specs.Reader.{reader_input}
 use Rattle.gpu_capture.specs.declared.event.Event.{Event}
 use Rattle.gpu_capture.specs.declared.event.Stop.{Stop}

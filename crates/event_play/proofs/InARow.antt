@@ -1,5 +1,5 @@
 -- Words of GP0 that are played as one block, one event per word.
-use Rattle.std.proofs.Common.{◌≡◌, ◌≤◌, ◌<◌, inl, inr, ℕ, ◌+◌, ◌++◌, List, [], ◌∷◌, Option, Result, Ok, Err, OnOk}
+use Rattle.std.proofs.Common.{◌≡◌, ◌≤◌, ◌<◌, inl, inr, ℕ, ◌+◌, ◌++◌, List, [], ◌∷◌, Option}
 use Rattle.std.proofs.Common.{refl, ap, sym, ◌∙◌, append_assoc, append-nil, take, arith}
 use Rattle.dev_io.proofs.Parts.{taken_on}
 use Rattle.gathered_out.specs.Pieces.{Piece}
@@ -7,11 +7,10 @@ use Rattle.gathered_out.specs.Puts.{holding}
 use Rattle.gathered_out.proofs.Buffers.{Buffers, buffers_more}
 use Rattle.gp0_packets.specs.declared.note.Note.{Note}
 use Rattle.gpu_capture.specs.Capture.{Captured, ended, then_events}
-use Rattle.gpu_capture.specs.Reader.{AreNeeded as ReaderNeeds, capture_from, work_left, reader_input}
+use Rattle.gpu_capture.specs.Reader.{capture_from, reader_input}
 use Rattle.gpu_capture.specs.Words.{TakesWords, word_events}
 use Rattle.gpu_capture.specs.declared.event.Event.{Event}
 use Rattle.gpu_capture.specs.declared.event.Event.TheVariants.{Gp0}
-use Rattle.gpu_capture.specs.declared.event.Stop.{Stop}
 use Rattle.gpu_capture.specs.declared.event.Stop.TheVariants.{Truncated}
 use Rattle.gpu_capture.specs.declared.progress.Progress.{Progress}
 use Rattle.gpu_capture.proofs.Needed.{says_on}

@@ -1,10 +1,10 @@
 -- Playing a capture, event by event.
 use Rattle.std.proofs.Common.{◌≡◌, ◌≤◌, inl, inr, ℕ, ◌+◌, ◌++◌, List, [], ◌∷◌, Option, None, Ok}
-use Rattle.std.proofs.Common.{option_to_list, refl, ap, sym, subst, ◌∙◌, append_assoc, append-nil, arith}
+use Rattle.std.proofs.Common.{option_to_list, refl, ap, sym, subst, ◌∙◌, append_assoc, arith}
 use Rattle.std.proofs.Common.{length, length-append}
-use Rattle.dev_io.specs.Device.{appended, AppendsPart}
+use Rattle.dev_io.specs.Device.{AppendsPart}
 use Rattle.dev_io.proofs.Appended.{appended-nil}
-use Rattle.gathered_out.specs.Pieces.{AreOut, Piece, bytes_of, piece}
+use Rattle.gathered_out.specs.Pieces.{AreOut, Piece, piece}
 use Rattle.gathered_out.specs.Puts.{BreaksWriting, IsPut, holding}
 use Rattle.gathered_out.proofs.Buffers.{BreaksDue, Buffers, breaks_put, buffers_more, buffers_off}
 use Rattle.gathered_out.proofs.Buffers.{buffers_on, buffers_written}
