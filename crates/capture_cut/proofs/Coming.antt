@@ -13,7 +13,7 @@ use Rattle.event_play.specs.Replay.{Replay}
 use Rattle.event_play.specs.RigState.{RigState}
 use Rattle.event_play.specs.Streams.{Streams, streams}
 use Rattle.gpu_capture.specs.Reading.{AreNeeded}
-use Rattle.event_play.specs.Pausing.{Pauses, most_after}
+use Rattle.event_loop.specs.Pausing.{Pauses, most_after}
 use Rattle.capture_cut.specs.Came.{Came, GoesOn, Reached, unheld}
 use Rattle.capture_cut.specs.Cut.{CutAt, events_of}
 use Rattle.capture_cut.specs.File.{begun, cut_file}

@@ -18,7 +18,7 @@ use Rattle.event_play.specs.RigState.{RigState}
 use Rattle.event_play.specs.Streams.{Streams, streams}
 use Rattle.gpu_capture.specs.Written.{spell}
 use Rattle.gpu_capture.specs.Reading.{SaysFirst}
-use Rattle.event_play.specs.Pausing.{most_after}
+use Rattle.event_loop.specs.Pausing.{most_after}
 use Rattle.gpu_capture.proofs.Spelled.{allows_append}
 use Rattle.event_play.proofs.After.{few_after}
 use Rattle.gpu_capture.proofs.Spelled.{spell-append, wrote_on}

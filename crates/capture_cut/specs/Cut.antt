@@ -1,7 +1,8 @@
 -- A capture that is cut after its first n events (our own rule).
 use Rattle.std.specs.Prelude.{◌≡◌, ◌≤◌, ◌<◌, ◌⊎◌, ◌==◌, ℕ, List, [], ◌∷◌, ◌++◌, ◌+◌, Option, Err, length}
-use Rattle.std.specs.Prelude.{if◌then◌else◌}
+use Rattle.std.specs.Prelude.{if◌then◌else◌, Result, IfErr}
 use Rattle.dev_io.specs.Device.{prepended, appended, AppendsPart, Rose}
+use Rattle.gathered_out.specs.Causes.{Causes}
 use Rattle.gpu_capture.specs.Capture.{capture, limit}
 use Rattle.gpu_capture.specs.Reading.{AreFewAfter, AreNeeded, AreNeededToEnd, Said, SaysFirst, SaysStop}
 use Rattle.gpu_capture.specs.Written.{spelled, spelled_end, AllowsAll}
@@ -11,7 +12,7 @@ use Rattle.gpu_capture.specs.declared.event.Stop.TheVariants.{End, ReadFault}
 use Rattle.gpu_taps.specs.Tally.{Reading}
 use Rattle.picture_out.specs.Dump.{dump_cost}
 use Rattle.event_play.specs.Ends.{IsNotEnd}
-use Rattle.event_play.specs.Pausing.{most_after}
+use Rattle.event_loop.specs.Pausing.{most_after}
 use Rattle.event_play.specs.Replay.{Replay, played_events, raised}
 use Rattle.event_play.specs.RigState.{RigState, StandsFor}
 use Rattle.event_play.specs.Step.{event_step}
@@ -199,4 +200,9 @@ IsEnding ending = Unit {0}
 pub record EndsWriting (before now : ℕ) (ending : CutEnding) : Type 0 where
   pub known : IsEnding ending
   pub read : MayReadFault ending → ⊥
-  pub cause : MayWriteFault ending → Rose before now
+  pub causes : Causes (MayWriteFault ending) before now
+
+-- what a call of such code returns
+pub record WritesOrEnds {Value : Type 0} (before now : ℕ) (result : Result Value CutEnding) : Type 0 where
+  pub kept : before ≤ now
+  pub ends : IfErr result (EndsWriting before now)

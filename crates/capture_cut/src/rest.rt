@@ -1,6 +1,6 @@
 // Reads the events after the first ones and writes their records.
 ghost use Rattle.std.specs.Prelude.{◌≤◌, ◌<◌, ◌+◌, ◌^◌, ℕ, List, IfErr, OnOk};
-ghost use Rattle.dev_io.specs.Device.{Rose};
+ghost use Rattle.gathered_out.specs.Causes.{Causes};
 ghost use Rattle.gpu_capture.specs.Record.{IsEvent};
 ghost use Rattle.gpu_capture.specs.Reader.{IsReadFault};
 ghost use Rattle.gpu_capture.specs.Written.{Allows};
@@ -10,12 +10,13 @@ ghost use Rattle.event_play.specs.Streams.{Streams, streams};
 ghost use Rattle.capture_cut.specs.Came.{Came, EndsAt, EndsReading, EndsRecord, EndsTooLong, IsReady, PutsRecord};
 ghost use Rattle.capture_cut.specs.Came.{reached, writing};
 ghost use Rattle.capture_cut.specs.Cut.{CutAt, EndsCut, EndsWriting, IsEnding, MayReadFault, MayWriteFault};
+ghost use Rattle.capture_cut.specs.Cut.{WritesOrEnds};
 
 use crate::ending::CutEnding;
 use crate::file::Draft;
 use crate::record::{allowed, put_bytes, record_size};
 use dev_io::{Sink, Source};
-use event_play::write_at_pause;
+use event_loop::write_at_pause;
 use gathered_out::OutputBuffer;
 use gpu_capture::{Event, EventReader, LIMIT, Stop, write_end};
 
@@ -38,10 +39,8 @@ pub(crate) fn write_rest<S: Source, K: Sink>(
         (reached reader.old.progress read size)
         → EndsCut at before (streams (S.left source.new) (K.held out.new) heard steps) rig result }
     ensures known { IsEnding result }
-    ensures read_cause { MayReadFault result → Rose (S.faults source.old) (S.faults source.new) }
-    ensures write_cause { MayWriteFault result → Rose (K.faults out.old) (K.faults out.new) }
-    ensures read_faults { S.faults source.old ≤ S.faults source.new }
-    ensures write_faults { K.faults out.old ≤ K.faults out.new }
+    ensures reads { Causes (MayReadFault result) (S.faults source.old) (S.faults source.new) }
+    ensures writes { Causes (MayWriteFault result) (K.faults out.old) (K.faults out.new) }
 {
     let mut draft = Draft {
         size,
@@ -80,8 +79,7 @@ fn put_record<K: Sink>(
     ensures room { OnOk result (draft.new.size + 4 ≤ 2 ^ 30) }
     ensures allowed { Allows 2 event.now }
     ensures ends { IfErr result (EndsRecord number event.now (writing draft.old (K.held out.old)) (K.held out.new)) }
-    ensures known { IfErr result (EndsWriting (K.faults out.old) (K.faults out.new)) }
-    ensures faults { K.faults out.old ≤ K.faults out.new }
+    ensures known { WritesOrEnds (K.faults out.old) (K.faults out.new) result }
 {
     allowed(*event);
     let after = draft.size + record_size(event);
@@ -101,7 +99,6 @@ fn put_record<K: Sink>(
 fn end_too_long<K: Sink>(number: u64, buffered: &mut OutputBuffer, out: &mut K) -> CutEnding
     ensures ends { EndsTooLong number buffered.old (K.held out.old) (K.held out.new) result }
     ensures known { EndsWriting (K.faults out.old) (K.faults out.new) result }
-    ensures faults { K.faults out.old ≤ K.faults out.new }
 {
     match buffered.write(out) {
         Ok(()) => CutEnding::TooLong { event: number },
@@ -114,8 +111,7 @@ fn end_reading<K: Sink>(stop: Stop, number: u64, draft: &mut Draft, out: &mut K)
     ensures ends { EndsReading number stop (writing draft.old (K.held out.old)) (K.held out.new) result }
     ensures known { IsEnding result }
     ensures stopped { MayReadFault result → IsReadFault stop }
-    ensures cause { MayWriteFault result → Rose (K.faults out.old) (K.faults out.new) }
-    ensures faults { K.faults out.old ≤ K.faults out.new }
+    ensures causes { Causes (MayWriteFault result) (K.faults out.old) (K.faults out.new) }
 {
     match draft.buffered.write(out) {
         Ok(()) => finish(stop, number, out),
@@ -128,8 +124,7 @@ fn finish<K: Sink>(stop: Stop, number: u64, out: &mut K) -> CutEnding
     ensures ends { EndsAt number stop (K.held out.old) (K.held out.new) result }
     ensures known { IsEnding result }
     ensures stopped { MayReadFault result → IsReadFault stop }
-    ensures cause { MayWriteFault result → Rose (K.faults out.old) (K.faults out.new) }
-    ensures faults { K.faults out.old ≤ K.faults out.new }
+    ensures causes { Causes (MayWriteFault result) (K.faults out.old) (K.faults out.new) }
 {
     match stop {
         Stop::End => match write_end(out) {

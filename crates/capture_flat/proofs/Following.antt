@@ -48,9 +48,5 @@ all_flat first replay events flat follows =
 
 -- ---- sums
 
-pub heard_on : (before mid now : List Reading) (told notes : List Note) → mid ≡ told_notes told before
-    → now ≡ told_notes notes mid → now ≡ told_notes (told ++ notes) before
-heard_on before mid now told notes was took = took ∙ ap (told_notes notes) was ∙ sym (told-append told notes before)
-
 pub spent_within : (before now a b : ℕ) → now ≤ before + a → a ≤ b → now ≤ before + b
 spent_within before now a b within small = omega arith

@@ -24,7 +24,8 @@ use Rattle.capture_flat.specs.Taking.{FitsBefore, FlatAt, FlatBegins, FlatBreaks
 use Rattle.capture_flat.specs.Taking.{FlatStart, first_of}
 use Rattle.capture_flat.specs.Taking.{flat_at, flat_closing, flat_due, flat_number, replay_after}
 use Rattle.capture_flat.specs.declared.file.FlatFile.{FlatFile}
-use Rattle.capture_flat.proofs.Following.{all_flat, follows_none, follows_on, heard_on}
+use Rattle.capture_flat.proofs.Following.{all_flat, follows_none, follows_on}
+use Rattle.event_play.proofs.Reaching.{heard_on}
 use Rattle.capture_flat.proofs.Output.{begun_on, written_fits, written_length}
 use Rattle.event_loop.specs.Puts.{ArePut, BreakPut}
 

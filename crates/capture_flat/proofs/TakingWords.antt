@@ -26,7 +26,8 @@ use Rattle.capture_flat.specs.Passing.{Follows}
 use Rattle.capture_flat.specs.Records.{record_pieces}
 use Rattle.capture_flat.specs.Taking.{FlatAt, FlatKnows, FlatStands, FlatStart, first_of, flat_due, replay_after}
 use Rattle.capture_flat.proofs.Counts.{words_bytes}
-use Rattle.capture_flat.proofs.Following.{all_flat, heard_on}
+use Rattle.event_play.proofs.Reaching.{heard_on}
+use Rattle.capture_flat.proofs.Following.{all_flat}
 use Rattle.capture_flat.proofs.Output.{written_length}
 use Rattle.capture_flat.proofs.PlayedWords.{begun_word, more_cost, more_notes, same_played, same_state, word_due}
 use Rattle.capture_flat.proofs.PlayedWords.{word_follows, words_follow, words_length, words_small}

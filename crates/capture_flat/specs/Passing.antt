@@ -8,7 +8,7 @@ use Rattle.gpu_capture.specs.declared.event.Event.{Event}
 use Rattle.gpu_capture.specs.declared.event.Stop.{Stop}
 use Rattle.gpu_capture.specs.declared.event.Stop.TheVariants.{End, ReadFault}
 use Rattle.event_play.specs.Ends.{IsNotEnd}
-use Rattle.event_play.specs.Pausing.{most_after}
+use Rattle.event_loop.specs.Pausing.{most_after}
 use Rattle.event_play.specs.Playing.{whole}
 use Rattle.event_play.specs.Replay.{Replay, played_events, played_capture, next_number, raised}
 use Rattle.event_play.specs.RigState.{RigState, StandsFor}

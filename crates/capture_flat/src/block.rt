@@ -1,6 +1,6 @@
 // Records of words of an open record that are read as one block.
-ghost use Rattle.std.specs.Prelude.{◌≤◌, ◌<◌, ◌*◌, OnErr};
-ghost use Rattle.dev_io.specs.Device.{Rose};
+ghost use Rattle.std.specs.Prelude.{◌≤◌, ◌<◌, ◌*◌};
+ghost use Rattle.gathered_out.specs.Causes.{Causes, Fails};
 ghost use Rattle.gathered_out.specs.Puts.{holding};
 ghost use Rattle.event_play.specs.Listing.{PutsPieces};
 ghost use Rattle.capture_flat.specs.Records.{record_pieces};
@@ -19,8 +19,7 @@ pub(crate) fn put_words<K: Sink>(
 ) -> Result<(), u64>
     ensures puts { PutsPieces (record_pieces played words.now)
         (holding (K.held out.old) buffered.old) (holding (K.held out.new) buffered.new) result }
-    ensures cause { OnErr result (Rose (K.faults out.old) (K.faults out.new)) }
-    ensures faults { K.faults out.old ≤ K.faults out.new }
+    ensures causes { Causes (Fails result) (K.faults out.old) (K.faults out.new) }
 {
     let mut number = played;
     for word in words {

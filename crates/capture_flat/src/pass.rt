@@ -18,37 +18,47 @@ use gathered_out::OutputBuffer;
 use gpu_capture::head_bytes;
 use ot_clear_dma::Ram;
 
-/// Returns the number of bytes that [`put_due`] adds.
-pub(crate) fn due_size(ram: &Ram, operation: Operation, played: u64) -> u32
-    requires { IsOperation operation }
-    ensures value { (version : ℕ)
-        → result ≡ length (head_due version played ++ spell (flat_operation ram.now operation)) }
-    ensures few { result ≤ 2 ^ 31 + 8 }
-{
-    let records = count_operation(ram, operation);
-    if played == 0 { records + 8 } else { records }
+/// An operation, main memory, and the number of events played before.
+#[derive(Clone, Copy)]
+pub(crate) struct Performed<'a> {
+    pub(crate) operation: Operation,
+    pub(crate) ram: &'a Ram,
+    pub(crate) played: u64,
 }
 
-/// Adds the output of an event after `played` events: the file header if it is the first, then the records of its
-/// operation. On failure, returns the number of the first event whose output is incomplete.
+/// Returns the number of bytes that [`put_due`] adds.
+pub(crate) fn due_size(performed: Performed) -> u32
+    requires { IsOperation performed.operation }
+    ensures value { (version : ℕ) → result ≡ length (head_due version performed.entry.played
+        ++ spell (flat_operation performed.entry.ram.now performed.entry.operation)) }
+    ensures few { result ≤ 2 ^ 31 + 8 }
+{
+    let records = count_operation(performed.ram, performed.operation);
+    if performed.played == 0 {
+        records + 8
+    } else {
+        records
+    }
+}
+
+/// Adds the output of an operation: the file header if it is the first event, then its records. On failure, returns the
+/// number of the first event whose output is incomplete.
 pub(crate) fn put_due<K: Sink>(
     version: u8,
     buffered: &mut OutputBuffer,
     out: &mut K,
-    played: u64,
-    ram: &Ram,
-    operation: Operation,
+    performed: Performed,
 ) -> Result<(), u64>
     requires version { version ≤ 3 }
-    requires operation { IsOperation operation }
-    ensures { Puts
-        (piece (next_number played) (head_due version played ++ spell (flat_operation ram.now operation)))
+    requires operation { IsOperation performed.operation }
+    ensures { Puts (piece (next_number performed.entry.played) (head_due version performed.entry.played
+        ++ spell (flat_operation performed.entry.ram.now performed.entry.operation)))
         (sink_state K.held K.faults out.old buffered.old)
         (sink_state K.held K.faults out.new buffered.new) result }
 {
-    let number = played.saturating_add(1);
-    match put_head(buffered, out, version, played) {
-        Ok(()) => spell_operation(number, buffered, out, ram, operation),
+    let number = performed.played.saturating_add(1);
+    match put_head(buffered, out, version, performed.played) {
+        Ok(()) => spell_operation(number, buffered, out, performed.ram, performed.operation),
         Err(lacking) => Err(lacking),
     }
 }

@@ -4,7 +4,7 @@ ghost use Rattle.std.specs.Prelude.{◌≡◌, ◌≤◌, ◌<◌, ◌+◌, ◌*
 use crate::allowed::{allowed, slice_allowed};
 use crate::block::put_words;
 use crate::file::FlatFile;
-use crate::pass::{due_size, put_due, put_last};
+use crate::pass::{Performed, due_size, put_due, put_last};
 use crate::refusal::FlatRefusal;
 use dev_io::Sink;
 use event_loop::{Halt, Passage};
@@ -100,15 +100,19 @@ impl<'a, T: Listener, L: Ledger> Passage for Flattening<'a, T, L> {
                 },
             });
         }
-        let ram = self.rig.ram();
-        allowed(ram, operation);
-        let after = self.file.size + due_size(ram, operation, played);
+        let performed = Performed {
+            operation,
+            ram: self.rig.ram(),
+            played,
+        };
+        allowed(performed.ram, operation);
+        let after = self.file.size + due_size(performed);
         if after + 4 > LIMIT {
             return Err(Halt::Refuses {
                 why: FlatRefusal::TooMuch { event: number },
             });
         }
-        match put_due(self.file.version, buffered, out, played, ram, operation) {
+        match put_due(self.file.version, buffered, out, performed) {
             Ok(()) => {
                 self.file.size = after;
                 Ok(())

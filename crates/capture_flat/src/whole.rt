@@ -1,6 +1,7 @@
 // Reads, plays and writes a whole capture.
 ghost use Rattle.std.specs.Prelude.{◌≡◌, ◌≤◌, map};
 ghost use Rattle.dev_io.specs.Device.{Rose};
+ghost use Rattle.gathered_out.specs.Causes.{Causes};
 ghost use Rattle.event_play.specs.Replay.{from_state};
 ghost use Rattle.event_play.specs.RigState.{Stands};
 ghost use Rattle.event_play.specs.Step.{Machine};
@@ -76,10 +77,8 @@ fn flatten<S: Source, K: Sink, T: Listener, L: Ledger>(
         (streams (S.left source.new) (K.held out.new) (map T.heard flattening.new.taps.now.items)
         flattening.new.steps.now) flattening.new.rig.now result }
     ensures known { IsEnding result }
-    ensures read_cause { MayReadFault result → Rose (S.faults source.old) (S.faults source.new) }
-    ensures write_cause { MayWriteFault result → Rose (K.faults out.old) (K.faults out.new) }
-    ensures read_faults { S.faults source.old ≤ S.faults source.new }
-    ensures write_faults { K.faults out.old ≤ K.faults out.new }
+    ensures reads { Causes (MayReadFault result) (S.faults source.old) (S.faults source.new) }
+    ensures writes { Causes (MayWriteFault result) (K.faults out.old) (K.faults out.new) }
     ensures rig { flattening.new.rig.ghost_name ≡ flattening.old.rig.ghost_name }
     ensures taps { flattening.new.taps.ghost_name ≡ flattening.old.taps.ghost_name }
     ensures steps { flattening.new.steps.ghost_name ≡ flattening.old.steps.ghost_name }

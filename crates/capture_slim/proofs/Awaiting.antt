@@ -17,7 +17,7 @@ use Rattle.gpu_capture.specs.declared.progress.Progress.{Progress}
 use Rattle.gpu_capture.proofs.Taken.{taken_count}
 use Rattle.gpu_capture.proofs.Versions.{version_from}
 use Rattle.event_play.specs.Ends.{IsNotEnd}
-use Rattle.event_play.specs.Pausing.{Pauses, most_after}
+use Rattle.event_loop.specs.Pausing.{Pauses, most_after}
 use Rattle.event_play.specs.Ports.{IsAtPorts}
 use Rattle.dead_drawing.specs.Laws.{height_for}
 use Rattle.dead_drawing.specs.Slim.{slim_events}
@@ -40,7 +40,7 @@ use Rattle.capture_slim.specs.declared.ending.SlimEnding.{SlimEnding}
 use Rattle.capture_slim.specs.declared.ending.SlimEnding.TheVariants.{Done, Stopped, NotFlat, TooLong, WriteFailed}
 use Rattle.capture_slim.specs.declared.file.Draft.{Draft}
 use Rattle.capture_slim.specs.declared.file.SlimFile.{SlimFile}
-use Rattle.event_play.proofs.Awaiting.{events_left}
+use Rattle.event_loop.proofs.Awaiting.{events_left}
 use Rattle.event_play.proofs.After.{IsReading}
 use Rattle.capture_slim.proofs.Firsts.{counted, fails_among, gone, outs_more, rest, rest_refused, size, waiting_size}
 use Rattle.capture_slim.proofs.Files.{first_draft, out_draft, written_most}

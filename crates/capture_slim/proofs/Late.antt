@@ -12,7 +12,7 @@ use Rattle.gpu_capture.specs.declared.event.Event.{Event}
 use Rattle.gpu_capture.specs.declared.event.Stop.{Stop}
 use Rattle.gpu_capture.specs.declared.progress.Progress.{Progress}
 use Rattle.gathered_out.specs.Pieces.{AreOut, BreaksOff, Piece}
-use Rattle.event_play.specs.Pausing.{most_after}
+use Rattle.event_loop.specs.Pausing.{most_after}
 use Rattle.event_play.specs.Ports.{AreAtPorts}
 use Rattle.event_play.proofs.After.{IsReading, few_after}
 use Rattle.capture_slim.specs.Came.{StopsAs}

@@ -8,7 +8,7 @@ use Rattle.gpu_capture.specs.declared.event.Event.{Event}
 use Rattle.gpu_capture.specs.declared.event.Stop.{Stop}
 use Rattle.gpu_capture.specs.declared.event.Stop.TheVariants.{End, ReadFault}
 use Rattle.event_play.specs.Ends.{IsNotEnd}
-use Rattle.event_play.specs.Pausing.{most_after}
+use Rattle.event_loop.specs.Pausing.{most_after}
 use Rattle.event_play.specs.Ports.{IsAtPorts, AreAtPorts}
 use Rattle.event_play.specs.Replay.{Replay, played_capture, from_state}
 use Rattle.event_play.specs.Step.{first_machine}

@@ -54,7 +54,7 @@ short_on read events others part short = (
 )
 
 -- bytes that are needed for some events are needed for more events
-needed_more : (read : Reading) (events others : List Event) (taken : List ℕ) → AreNeeded read events taken
+pub needed_more : (read : Reading) (events others : List Event) (taken : List ℕ) → AreNeeded read events taken
     → AreNeeded read (events ++ others) taken
 needed_more read events others taken needed part more is some =
     short_on read events others part (needed part more is some)
@@ -83,7 +83,7 @@ word_short read events (word ∷ words) part (suc count) version byte fewer is =
     subst (λ (all : List Event). IsShortOf read all part)
     (append_assoc events (Gp0 word ∷ []) (word_events words)) later
 
-needed_words : (read : Reading) (old q : Progress) (left after : Option (List ℕ)) (events : List Event)
+pub needed_words : (read : Reading) (old q : Progress) (left after : Option (List ℕ)) (events : List Event)
     (xs words : List ℕ) → ReadsOn read old xs events → AreNeeded read events xs
     → (takes : TakesWords (reader_input old left) (reader_input q after) words)
     → AreNeeded read (events ++ word_events words) (xs ++ takes.taken)
@@ -97,7 +97,7 @@ needed_words read old q left after events xs words reached was takes part more i
     ]
 
 -- no byte was taken without need if none was taken
-reader_none : (p : Progress) → ReaderNeeds p []
+pub reader_none : (p : Progress) → ReaderNeeds p []
 reader_none p [] more is some = absurd (some (sym is))
 reader_none p (x ∷ part) more is some = absurd cc
 

@@ -1,6 +1,5 @@
 -- Why the output of an event is not complete (our own rule).
-use Rattle.std.specs.Prelude.{◌≤◌, ℕ, Result, IfErr}
-use Rattle.dev_io.specs.Device.{Rose}
+use Rattle.std.specs.Prelude.{ℕ, Result, Ok, Err}
 use Rattle.event_loop.specs.declared.ended.Halt.{Halt}
 use Rattle.event_loop.specs.declared.ended.Halt.TheVariants.{Lacks, Refuses}
 
@@ -12,7 +11,7 @@ abbrev pub MayLack : {R : Type 0} → Halt R → Type 0
 MayLack (Lacks number) = Unit {0}
 MayLack (Refuses why) = ⊥
 
--- The sink's count of faults does not fall. It rises if a write failed.
-pub record Causes {Value R : Type 0} (before now : ℕ) (result : Result Value (Halt R)) : Type 0 where
-  pub kept : before ≤ now
-  pub cause : IfErr result (λ halt. MayLack halt → Rose before now)
+-- a call failed by a write
+abbrev pub FailsWriting : {Value R : Type 0} → Result Value (Halt R) → Type 0
+FailsWriting (Ok v) = ⊥
+FailsWriting (Err halt) = MayLack halt

@@ -10,3 +10,5 @@ mod stop;
 pub use ended::{Ended, Halt};
 pub use pass::pass_all;
 pub use passage::Passage;
+pub use pause::write_at_pause;
+pub use stop::end_after;

@@ -1,6 +1,6 @@
 // What happens at the events of a source.
-ghost use Rattle.std.specs.Prelude.{◌≡◌, ◌≤◌, ◌⊎◌, ℕ, List, [], ◌∷◌, ◌++◌, OnErr, OnOk, IfErr, length};
-ghost use Rattle.dev_io.specs.Device.{Rose};
+ghost use Rattle.std.specs.Prelude.{◌≡◌, ◌≤◌, ◌⊎◌, ℕ, List, [], ◌∷◌, ◌++◌, OnOk, IfErr, length};
+ghost use Rattle.gathered_out.specs.Causes.{Causes, Fails};
 ghost use Rattle.gathered_out.specs.Pieces.{Piece};
 ghost use Rattle.gathered_out.specs.Puts.{holding};
 ghost use Rattle.gpu_capture.specs.Record.{IsEvent};
@@ -9,7 +9,7 @@ ghost use Rattle.gpu_capture.specs.declared.event.Stop.{Stop as SpecStop};
 ghost use Rattle.gpu_capture.specs.Words.{word_events};
 ghost use Rattle.event_loop.specs.Due.{pieces_after};
 ghost use Rattle.event_loop.specs.Puts.{ArePut, BreakPut};
-ghost use Rattle.event_loop.specs.Halting.{Halts, Causes};
+ghost use Rattle.event_loop.specs.Halting.{Halts, FailsWriting};
 ghost use Rattle.event_loop.specs.Pausing.{KnowsEach, WaitsAfter, most_after};
 
 use crate::ended::Halt;
@@ -114,7 +114,7 @@ pub trait Passage {
             × breaks s version (events ++ event.now ∷ []) self.new × knows s version events event.now)
             (λ why. refuses s version events event.now self.new why
             × (buffered.new ≡ buffered.old) × (K.held out.new ≡ K.held out.old))) }
-        ensures causes { Causes (K.faults out.old) (K.faults out.new) result }
+        ensures causes { Causes (FailsWriting result) (K.faults out.old) (K.faults out.new) }
         ensures same { same self.old self.new };
 
     /// Returns the most words of an open record that it takes at once. `at_hand` is how many the source has without
@@ -148,8 +148,7 @@ pub trait Passage {
             → 1 ≤ length events → IfErr result (λ lacking.
             BreakPut (pieces_after (due s version) events (word_events words.now))
             (holding (K.held out.old) buffered.old) (K.held out.new) lacking × WaitsAfter (most s version) events) }
-        ensures cause { OnErr result (Rose (K.faults out.old) (K.faults out.new)) }
-        ensures faults { K.faults out.old ≤ K.faults out.new }
+        ensures causes { Causes (Fails result) (K.faults out.old) (K.faults out.new) }
         ensures same { same self.old self.new };
 
     /// Puts the output of a stop of the reader. If it refuses the stop, it puts nothing.
@@ -171,7 +170,7 @@ pub trait Passage {
             (holding (K.held out.old) buffered.old) (K.held out.new) lacking × closes s version events stop self.new)
             (λ why. refuses_stop s version events stop self.new why
             × (buffered.new ≡ buffered.old) × (K.held out.new ≡ K.held out.old))) }
-        ensures causes { Causes (K.faults out.old) (K.faults out.new) result }
+        ensures causes { Causes (FailsWriting result) (K.faults out.old) (K.faults out.new) }
         ensures same { same self.old self.new };
 
     /// Returns the number of the next event.

@@ -1,6 +1,6 @@
 // Buffered output is written before a read that may have to wait.
-ghost use Rattle.std.specs.Prelude.{◌≡◌, ◌≤◌, ◌⊎◌, [], IfErr, IfOk, OnErr, OnOk};
-ghost use Rattle.dev_io.specs.Device.{Rose};
+ghost use Rattle.std.specs.Prelude.{◌≡◌, ◌⊎◌, [], IfErr, IfOk, OnOk};
+ghost use Rattle.gathered_out.specs.Causes.{Causes, Fails};
 ghost use Rattle.gathered_out.specs.Puts.{BreaksWriting, holding};
 ghost use Rattle.gpu_capture.specs.Limit.{IsAtHand};
 ghost use Rattle.event_loop.specs.Pausing.{Pauses};
@@ -12,7 +12,7 @@ use gpu_capture::EventReader;
 /// Flushes `buffered` if `reader.pauses(source, since)`. So nothing is buffered when the next event has to wait for a
 /// byte. `since` is the byte offset of the reader at the last flush. Returns the offset at the latest flush. On
 /// failure, returns the number of the first event whose output is incomplete.
-pub(crate) fn write_at_pause<S: Source, K: Sink>(
+pub fn write_at_pause<S: Source, K: Sink>(
     reader: &EventReader,
     source: &S,
     since: u32,
@@ -23,8 +23,7 @@ pub(crate) fn write_at_pause<S: Source, K: Sink>(
         (holding (K.held out.old) buffered.old) (holding (K.held out.new) buffered.new)) }
     ensures waits { OnOk result ((buffered.new ≡ []) ⊎ IsAtHand reader.now.progress (S.at_hand source.now)) }
     ensures failed { IfErr result (BreaksWriting (K.held out.old) (K.held out.new) buffered.old) }
-    ensures cause { OnErr result (Rose (K.faults out.old) (K.faults out.new)) }
-    ensures faults { K.faults out.old ≤ K.faults out.new }
+    ensures causes { Causes (Fails result) (K.faults out.old) (K.faults out.new) }
 {
     if reader.pauses(source, since) {
         match buffered.write(out) {

@@ -1,6 +1,7 @@
 // The loop ends and writes what is buffered.
 ghost use Rattle.std.specs.Prelude.{◌≡◌, ◌≤◌, ◌⊎◌, [], ℕ, List};
 ghost use Rattle.dev_io.specs.Device.{Rose};
+ghost use Rattle.gathered_out.specs.Causes.{Causes};
 ghost use Rattle.gathered_out.specs.Puts.{holding};
 ghost use Rattle.gpu_capture.specs.Reader.{IsReadFault};
 ghost use Rattle.gpu_capture.specs.declared.event.Event.{Event as SpecEvent};
@@ -15,7 +16,7 @@ use gathered_out::OutputBuffer;
 use gpu_capture::Stop;
 
 /// Ends at an event whose output is not complete. Flushes `buffered` first, unless a write has failed already.
-pub(crate) fn end_after<R: Copy, K: Sink>(
+pub fn end_after<R: Copy, K: Sink>(
     halt: Halt<R>,
     buffered: &mut OutputBuffer,
     out: &mut K,
@@ -49,8 +50,7 @@ pub(crate) fn end_reading<P: Passage, K: Sink>(
         buffered.old (K.held out.old) (K.held out.new) result }
     ensures known { IsEnding result }
     ensures stopped { MayReadFault result → IsReadFault stop }
-    ensures cause { MayWriteFault result → Rose (K.faults out.old) (K.faults out.new) }
-    ensures faults { K.faults out.old ≤ K.faults out.new }
+    ensures causes { Causes (MayWriteFault result) (K.faults out.old) (K.faults out.new) }
     ensures same { P.same passage.old passage.new }
 {
     match buffered.write(out) {
@@ -75,8 +75,7 @@ fn close_at<P: Passage, K: Sink>(
         (K.held out.old) (K.held out.new) result }
     ensures known { IsEnding result }
     ensures stopped { MayReadFault result → IsReadFault stop }
-    ensures cause { MayWriteFault result → Rose (K.faults out.old) (K.faults out.new) }
-    ensures faults { K.faults out.old ≤ K.faults out.new }
+    ensures causes { Causes (MayWriteFault result) (K.faults out.old) (K.faults out.new) }
     ensures same { P.same passage.old passage.new }
 {
     let number = passage.next_number();
@@ -97,8 +96,7 @@ fn write_closing<R: Copy, K: Sink>(
     ensures ends { WritesBefore ending buffered.old (K.held out.old) (K.held out.new) result }
     ensures known { IsEnding result }
     ensures stopped { MayReadFault result → MayReadFault ending }
-    ensures cause { MayWriteFault result → Rose (K.faults out.old) (K.faults out.new) }
-    ensures faults { K.faults out.old ≤ K.faults out.new }
+    ensures causes { Causes (MayWriteFault result) (K.faults out.old) (K.faults out.new) }
 {
     match buffered.write(out) {
         Ok(()) => ending,

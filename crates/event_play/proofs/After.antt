@@ -6,7 +6,7 @@ use Rattle.gpu_capture.specs.Reader.{AreNeeded as ReaderNeeds, IsStart, capture_
 use Rattle.gpu_capture.specs.declared.event.Event.{Event}
 use Rattle.gpu_capture.specs.declared.progress.Progress.{Progress}
 use Rattle.gpu_capture.proofs.Taken.{few_at_first, few_at_once, taken_count}
-use Rattle.event_play.specs.Pausing.{most_after}
+use Rattle.event_loop.specs.Pausing.{most_after}
 
 -- a reader at its start, or after the file header
 abbrev pub IsReading : Progress → List ℕ → List Event → Type 0

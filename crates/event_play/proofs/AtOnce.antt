@@ -3,7 +3,7 @@ use Rattle.std.proofs.Common.{◌≡◌, ◌<◌, ℕ, ◌+◌, ◌^◌, ◌++�
 use Rattle.std.proofs.Common.{◌≤◌, ◌-◌, take, drop, length-drop, refl, ap, sym, ◌∙◌, append_assoc, append-nil}
 use Rattle.std.proofs.Common.{add-zero, subst, arith}
 use Rattle.std.proofs.Math.Seq.{take-add}
-use Rattle.std.proofs.lemmas.List.{take_all, take-append-drop}
+use Rattle.std.proofs.lemmas.List.{length-take-le, take_all, take-append-drop}
 use Rattle.std.proofs.lemmas.List.Sums.{fold-append}
 use Rattle.gp0_packets.specs.declared.note.Note.{Note}
 use Rattle.gpu_capture.specs.declared.event.Event.TheVariants.{Gp0}
@@ -136,14 +136,51 @@ told_on t first now gpu played xs ys all both told =
     let P : Replay → Type 0 = λ replay. IsTold replay first now gpu played in
     subst P (sym (after_words-append t xs ys) ∙ ap (after_words t) both) told
 
--- the same for the first of the words after the first ones
-pub told_first : (t : Replay) (first now : Outlets) (gpu : Kept) (words : List ℕ) (at count number counted : ℕ)
-    → at ≤ length words → counted ≡ number
+-- the same for the first of the words after the first ones; `number`: the number of events played before them
+pub told_first : (t : Replay) (first now : Outlets) (gpu : Kept) (words : List ℕ) (at count played number : ℕ)
+    → at ≤ length words → number ≡ number_after played at
     → IsTold (after_words (after_words t (take at words)) (take count (take (length words - at) (drop at words)))) first
-    now gpu number
-    → IsTold (after_words t (take (at + count) words)) first now gpu counted
-told_first t first now gpu words at count number counted le same told =
+    now gpu (number_after number count)
+    → IsTold (after_words t (take (at + count) words)) first now gpu (number_after played (at + count))
+told_first t first now gpu words at count played number le same told =
     let P : ℕ → Type 0 = λ n. IsTold (after_words t (take (at + count) words)) first now gpu n in
-    subst P (sym same)
-    (told_on t first now gpu number (take at words) (take count (take (length words - at) (drop at words)))
-    (take (at + count) words) (taken_both words at count le) told)
+    let e : number_after number count ≡ number_after played (at + count) = omega (arith, same) in
+    subst P e
+    (told_on t first now gpu (number_after number count) (take at words)
+    (take count (take (length words - at) (drop at words))) (take (at + count) words) (taken_both words at count le)
+    told)
+
+-- the same for all words after the first ones
+pub told_rest : (t : Replay) (first now : Outlets) (gpu : Kept) (words : List ℕ) (at played number : ℕ)
+    → at ≤ length words → number ≡ number_after played at
+    → IsTold (after_words (after_words t (take at words)) (take (length words - at) (drop at words))) first now gpu
+    (number_after number (length (take (length words - at) (drop at words))))
+    → IsTold (after_words t words) first now gpu (number_after played (length words))
+told_rest t first now gpu words at played number le same told =
+    let rest = take (length words - at) (drop at words) in
+    let long = length-drop at words in
+    let all = length-take-le (length words - at) (drop at words) (omega (arith, long)) in
+    let P : ℕ → Type 0 = λ n. IsTold (after_words t words) first now gpu n in
+    let e : number_after number (length rest) ≡ number_after played (length words) = omega (arith, same, all, le) in
+    subst P e
+    (told_on t first now gpu (number_after number (length rest)) (take at words) rest words (rest_both words at le)
+    told)
+
+-- no word is left after the first ones
+pub told_all : (t : Replay) (first now : Outlets) (gpu : Kept) (words : List ℕ) (at played : ℕ)
+    → at ≤ length words → length words ≤ at
+    → IsTold (after_words t (take at words)) first now gpu (number_after played at)
+    → IsTold (after_words t words) first now gpu (number_after played (length words))
+told_all t first now gpu words at played le all told =
+    let P : List ℕ → Type 0 = λ xs. IsTold (after_words t xs) first now gpu (number_after played at) in
+    let Q : ℕ → Type 0 = λ n. IsTold (after_words t words) first now gpu (number_after played n) in
+    let e : at ≡ length words = omega (arith, le, all) in
+    subst Q e (subst P (take_all at words all) told)
+
+-- no word was played yet
+pub told_none : (t : Replay) (first now : Outlets) (gpu : Kept) (played : ℕ) → played < 2 ^ 64
+    → IsTold t first now gpu played → IsTold t first now gpu (number_after played 0)
+told_none t first now gpu played lt told =
+    let P : ℕ → Type 0 = λ n. IsTold t first now gpu n in
+    let e : played ≡ number_after played 0 = omega (arith, lt) in
+    subst P e told

@@ -1,5 +1,5 @@
 -- The state of playing a capture.
-use Rattle.std.proofs.Common.{◌≡◌, ◌≤◌, inl, inr, ℕ, suc, ◌+◌, ◌++◌, List, [], ◌∷◌, Option, Result, Ok, Err, OnOk, IfOk}
+use Rattle.std.proofs.Common.{◌≡◌, ◌≤◌, inl, inr, ℕ, ◌+◌, ◌++◌, List, [], ◌∷◌, Option, Result, Ok, Err, OnOk, IfOk}
 use Rattle.std.proofs.Common.{IfErr, Bool, cond, nat_lt, replicate, refl, ap, sym, subst, ◌∙◌, append_assoc, append-nil}
 use Rattle.std.proofs.Common.{◌<◌, ◌⊎◌, length, length-append, arith}
 use Rattle.dev_io.specs.Device.{prepended, IsAtEnd}
@@ -9,10 +9,11 @@ use Rattle.gathered_out.specs.Pieces.{Piece}
 use Rattle.gathered_out.specs.Puts.{holding}
 use Rattle.gathered_out.proofs.Buffers.{Buffers, buffers_more, buffers_none, buffers_written}
 use Rattle.gpu_capture.specs.Capture.{Captured, ended, then_events, records, capture}
+use Rattle.gpu_capture.proofs.Needed.{says_on}
 use Rattle.gpu_capture.proofs.Steps.{split}
 use Rattle.gpu_capture.proofs.Taken.{few_between}
 use Rattle.gpu_capture.proofs.Versions.{version_from}
-use Rattle.gpu_capture.specs.Reader.{AreNeeded, Takes, StopsAt, SaysStop, capture_from, IsStart, work_left}
+use Rattle.gpu_capture.specs.Reader.{AreNeeded, Takes, StopsAt, SaysStop, capture_from, IsStart}
 use Rattle.gpu_capture.specs.Reader.{reader_input}
 use Rattle.gpu_capture.specs.declared.event.Event.{Event}
 use Rattle.gpu_capture.specs.declared.event.Stop.{Stop}
@@ -21,7 +22,7 @@ use Rattle.gpu_capture.specs.declared.progress.Progress.{Progress}
 use Rattle.gpu_taps.specs.Tally.{Reading}
 use Rattle.event_play.specs.Lines.{IsBuffered, MayBuffer, lines_cost}
 use Rattle.event_play.specs.Out.{lines_of, replay_cost}
-use Rattle.event_play.specs.Pausing.{Pauses, most_after}
+use Rattle.event_loop.specs.Pausing.{Pauses, most_after}
 use Rattle.event_play.specs.Playing.{AreAllNeeded, plays}
 use Rattle.event_play.specs.Replay.{Replay, Played, Script, from_state, replayed, raised, played_from}
 use Rattle.event_play.specs.Replay.{played_after, script_after, script_from, script_of}
@@ -32,7 +33,8 @@ use Rattle.event_play.specs.Streams.{Streams, streams}
 use Rattle.event_play.specs.Told.{told_notes}
 use Rattle.event_play.specs.declared.ending.Mode.{Mode}
 use Rattle.event_play.proofs.Grows.{lines-none, lines_cost-none, cost_grows}
-use Rattle.event_play.proofs.Following.{ReadsAll, ReadsTo, read_first, read_on, reads_all, reads_further, then_both}
+use Rattle.event_loop.proofs.Awaiting.{LiesAfter}
+use Rattle.event_play.proofs.Following.{ReadsAll, ReadsTo, read_first, read_on, reads_all, reads_further}
 use Rattle.event_play.proofs.Firsts.{IsFirst, raised_first, from_first}
 use Rattle.event_play.proofs.Lacking.{WasDue, due_more}
 
@@ -59,14 +61,6 @@ pub record Reaches (mode : Mode) (script : List ℕ → Script) (before now : St
 -- Whatever bytes follow, playing continues from the replay at the reader's offset.
 abbrev pub PlaysOn : (List ℕ → Script) → Progress → Replay → List ℕ → Type 0
 PlaysOn script p t taken = (rest : List ℕ) → plays script (taken ++ rest) ≡ replayed t (capture_from p rest)
-
--- `after`: the bytes read from the offset `since` to the reader's offset
-pub record LiesAfter (since : ℕ) (p : Progress) (after : List ℕ) : Type 0 where
-  pub at : Progress
-  pub known : 1 ≤ at.version
-  pub offset : at.offset ≡ since
-  pub events : List Event
-  pub says : (rest : List ℕ) → capture_from at (after ++ rest) ≡ then_events events (capture_from p rest)
 
 -- at most 4,112 of them, if the mode buffers lines
 abbrev pub AreFew : Mode → List ℕ → Type 0
@@ -115,11 +109,6 @@ abbrev pub Awaits : Mode → (List ℕ → Script) → (before now : Streams) �
     → Progress → Result Event Stop → Type 0
 Awaits mode script before now buffered since rig p next =
     Reaches mode script before now buffered rig (Answers mode script since p now.left next)
-
--- a bound of the number of events still to be played
-abbrev pub events_left : Progress → Result Event Stop → ℕ
-events_left p (Ok event) = suc (work_left p)
-events_left p (Err stop) = 0
 
 -- ---- the start
 
@@ -288,9 +277,7 @@ module _ (mode : Mode) (script : List ℕ → Script) (before now : Streams) (bu
         known = lies.known;
         offset = lies.offset;
         events = lies.events ++ event ∷ [];
-        says = λ rest.
-            ap (capture_from lies.at) (append_assoc reached.after ys rest) ∙ lies.says (ys ++ rest)
-            ∙ ap (then_events lies.events) (says rest) ∙ then_both lies.events (event ∷ []) (capture_from new rest);
+        says = says_on (capture_from lies.at) old new lies.events (event ∷ []) reached.after ys lies.says says;
       }
 
   answered : (next : Result Event Stop) (taken : List ℕ) → now.left ≡ prepended taken left → AreNeeded old taken

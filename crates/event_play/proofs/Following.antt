@@ -1,15 +1,14 @@
 -- What the bytes read say in events, that none of them is unnecessary, and the replay to which the events lead.
-use Rattle.std.proofs.Common.{◌≡◌, ◌<◌, inl, inr, ◌++◌, ℕ, zero, suc, List, [], ◌∷◌, Option, Ok, refl, ap, sym}
-use Rattle.std.proofs.Common.{◌∙◌, append_assoc, append-nil, add-zero, take, length, subst, arith}
-use Rattle.gpu_capture.specs.Capture.{Captured, ended, then_events}
+use Rattle.std.proofs.Common.{◌≡◌, ◌++◌, ℕ, List, [], ◌∷◌, Option, Ok, refl, ap, sym, ◌∙◌, append_assoc, append-nil}
+use Rattle.std.proofs.Common.{add-zero}
+use Rattle.gpu_capture.specs.Capture.{Captured, then_events}
 use Rattle.gpu_capture.specs.Reader.{AreNeeded as ReaderNeeds, capture_from, reader_input}
-use Rattle.gpu_capture.specs.Reading.{AreNeeded, IsCutShort, SaysFirst}
+use Rattle.gpu_capture.specs.Reading.{AreNeeded, SaysFirst}
 use Rattle.gpu_capture.specs.Words.{TakesWords, word_events}
 use Rattle.gpu_capture.specs.declared.event.Event.{Event}
-use Rattle.gpu_capture.specs.declared.event.Event.TheVariants.{Gp0}
-use Rattle.gpu_capture.specs.declared.event.Stop.TheVariants.{Truncated}
 use Rattle.gpu_capture.specs.declared.progress.Progress.{Progress}
-use Rattle.gpu_capture.proofs.Steps.{split}
+use Rattle.gpu_capture.proofs.Needed.{ReadsOn, needed_on, says_on}
+use Rattle.event_loop.proofs.Blocks.{needed_words}
 use Rattle.event_play.specs.Playing.{Follows, IsReadTo, LeadsTo, reads}
 use Rattle.event_play.specs.Replay.{Replay, Script, after_event, go_on, part_fed, played_events, next_number}
 use Rattle.event_play.specs.Step.{event_words}
@@ -41,59 +40,6 @@ follows_all first t next events others was after = record {
 }
 
 -- ---- the bytes read
-
-abbrev cut_at : ℕ → ℕ → List Event → Captured
-cut_at version byte events = record { version = version; events = events; ending = Truncated byte; rest = [] }
-
--- The bytes `part` are cut short before the last of these events.
-abbrev pub IsShortOf : (List ℕ → Captured) → List Event → List ℕ → Type 0
-IsShortOf read events part = (event : Event) × (missing : List Event) × IsCutShort read events part (event ∷ missing)
-
--- They are also cut short before the last of more events.
-short_on : (read : List ℕ → Captured) (events others : List Event) (part : List ℕ) → IsShortOf read events part
-    → IsShortOf read (events ++ others) part
-short_on read events others part short = (
-  short.0,
-  short.1 ++ others,
-  record {
-    version = short.2.version;
-    byte = short.2.byte;
-    fewer = short.2.fewer;
-    are = ap (λ (all : List Event). all ++ others) short.2.are
-        ∙ append_assoc short.2.fewer (short.0 ∷ short.1) others;
-    is = short.2.is;
-  },
-)
-
--- Nor is any of the bytes unnecessary for more events.
-pub needed_on : (read : List ℕ → Captured) (events others : List Event) (taken : List ℕ) → AreNeeded read events taken
-    → AreNeeded read (events ++ others) taken
-needed_on read events others taken needed part more is some =
-    short_on read events others part (needed part more is some)
-
--- After these events, the bytes say the first words of others, and no more.
-word_short : (read : List ℕ → Captured) (events : List Event) (words part : List ℕ) (count version byte : ℕ)
-    → count < length words
-    → read part ≡ then_events events (then_events (word_events (take count words)) (ended version (Truncated byte) []))
-    → IsShortOf read (events ++ word_events words) part
-word_short read events [] part count version byte fewer is = absurd (omega (arith, fewer))
-word_short read events (word ∷ words) part zero version byte fewer is = (
-  Gp0 word,
-  word_events words,
-  record {
-    version = version;
-    byte = byte;
-    fewer = events;
-    are = refl;
-    is = is ∙ ap (cut_at version byte) (append-nil events);
-  },
-)
-word_short read events (word ∷ words) part (suc count) version byte fewer is =
-    let later = word_short read (events ++ Gp0 word ∷ []) words part count version byte (omega (arith, fewer))
-    (is ∙ ap (cut_at version byte)
-    (sym (append_assoc events (Gp0 word ∷ []) (word_events (take count words) ++ [])))) in
-    subst (λ (all : List Event). IsShortOf read all part)
-    (append_assoc events (Gp0 word ∷ []) (word_events words)) later
 
 -- The bytes read say these events, and then what the format says from the reader's offset on. None of them is
 -- unnecessary for the last event. The events `events` lead to the replay; those of `after` were read and not played.
@@ -211,37 +157,14 @@ read_played script p t next taken events event read is = record {
   follows = follows_on read.first t next events event read.follows is;
 }
 
-pub then_both : (events others : List Event) (c : Captured) → then_events events (then_events others c)
-    ≡ then_events (events ++ others) c
-then_both events others c =
-    ap (λ (all : List Event). record { version = c.version; events = all; ending = c.ending; rest = c.rest })
-    (sym (append_assoc events others c.events))
-
 module _ (script : List ℕ → Script) (old new : Progress) (t : Replay) (xs ys : List ℕ) (events others : List Event)
     (read : ReadsTo script old t xs events [])
     (says : (rest : List ℕ) → capture_from old (ys ++ rest) ≡ then_events others (capture_from new rest)) where
-  says_so_far : (rest : List ℕ) → reads script (xs ++ rest) ≡ then_events events (capture_from old rest)
-  says_so_far rest = read.says rest
-      ∙ ap (λ (all : List Event). then_events all (capture_from old rest)) (append-nil events)
+  says_so_far : ReadsOn (reads script) old xs events
+  says_so_far = rw (append-nil events) at read.says
 
-  -- a proper prefix of all bytes, which ends before the later ones or among them
-  both_needed : ((part more : List ℕ) → ys ≡ part ++ more → (more ≡ [] → ⊥)
-      → (whole : List ℕ) → reads script whole ≡ then_events events (capture_from old part)
-      → IsShortOf (reads script) (events ++ others) whole)
-      → AreNeeded (reads script) (events ++ others) (xs ++ ys)
-  both_needed later part more is some =
-      elim (split xs ys part more is) [
-        | inl after ↦ later after.0 more after.2 some part (ap (reads script) after.1 ∙ says_so_far after.0)
-        | inr inside ↦
-            short_on (reads script) events others part
-            (rw (append-nil events) at (read.needed part inside.0 inside.1 inside.2))
-      ]
-
-  says_both : (rest : List ℕ) → reads script ((xs ++ ys) ++ rest)
-      ≡ then_events (events ++ others) (capture_from new rest)
-  says_both rest =
-      ap (reads script) (append_assoc xs ys rest) ∙ says_so_far (ys ++ rest) ∙ ap (then_events events) (says rest)
-      ∙ then_both events others (capture_from new rest)
+  needed_so_far : AreNeeded (reads script) events xs
+  needed_so_far = rw (append-nil events) at read.needed
 
   version_both : (rest : List ℕ) → (capture_from new rest).version ≡ read.version
   version_both rest = sym (ap (λ (c : Captured). c.version) (says rest)) ∙ read.version_is (ys ++ rest)
@@ -255,27 +178,18 @@ pub read_on : (script : List ℕ → Script) (old new : Progress) (t : Replay) (
     → ReadsTo script old t xs events [] → ReaderNeeds old ys
     → ((rest : List ℕ) → capture_from old (ys ++ rest) ≡ then_events (event ∷ []) (capture_from new rest))
     → ReadsTo script new t (xs ++ ys) events (event ∷ [])
-read_on script old new t xs ys events event read needed says = record {
-  first = read.first;
-  version = read.version;
-  begins = begins_both script old new t xs ys events (event ∷ []) read says;
-  says = says_both script old new t xs ys events (event ∷ []) read says;
-  version_is = version_both script old new t xs ys events (event ∷ []) read says;
-  needed = both_needed script old new t xs ys events (event ∷ []) read says
-      (λ part more is some whole said.
-      let short = needed part more is some in (
-        event,
-        [],
-        record {
-          version = short.version;
-          byte = short.byte;
-          fewer = events;
-          are = refl;
-          is = said ∙ ap (then_events events) short.is ∙ ap (cut_at short.version short.byte) (append-nil events);
-        },
-      ));
-  follows = read.follows;
-}
+read_on script old new t xs ys events event read needed says =
+    let said = says_so_far script old new t xs ys events (event ∷ []) read says in
+    record {
+      first = read.first;
+      version = read.version;
+      begins = begins_both script old new t xs ys events (event ∷ []) read says;
+      says = says_on (reads script) old new events (event ∷ []) xs ys said says;
+      version_is = version_both script old new t xs ys events (event ∷ []) read says;
+      needed = needed_on (reads script) old events event xs ys said
+          (needed_so_far script old new t xs ys events (event ∷ []) read says) needed;
+      follows = read.follows;
+    }
 
 -- words were read and played, one event per word
 pub read_words : (script : List ℕ → Script) (old new : Progress) (before now : Option (List ℕ)) (t next : Replay)
@@ -286,18 +200,16 @@ pub read_words : (script : List ℕ → Script) (old new : Progress) (before now
 read_words script old new before now t next xs words events read takes after =
     let others = word_events words in
     let ys = takes.taken in
+    let said = says_so_far script old new t xs ys events others read takes.says in
     record {
       first = read.first;
       version = read.version;
       begins = begins_both script old new t xs ys events others read takes.says;
-      says = rw (append-nil (events ++ others)) (says_both script old new t xs ys events others read takes.says);
+      says = rw (append-nil (events ++ others)) (says_on (reads script) old new events others xs ys said takes.says);
       version_is = version_both script old new t xs ys events others read takes.says;
       needed = rw (append-nil (events ++ others))
-          (both_needed script old new t xs ys events others read takes.says
-          (λ part more is some whole said.
-          let short = takes.needed part more is some in
-          word_short (reads script) events words whole short.count short.version short.byte short.fewer
-          (said ∙ ap (then_events events) short.is)));
+          (needed_words (reads script) old new before now events xs words said
+          (needed_so_far script old new t xs ys events others read takes.says) takes);
       follows = follows_all read.first t next events others read.follows after;
     }
 

@@ -1,5 +1,5 @@
 -- Words of GP0 that are played as one block, one event per word.
-use Rattle.std.proofs.Common.{◌≡◌, ◌≤◌, ◌<◌, inl, inr, ℕ, ◌+◌, ◌++◌, List, [], ◌∷◌, Option, Result, Ok, Err, OnOk}
+use Rattle.std.proofs.Common.{◌≡◌, ◌≤◌, ◌<◌, inl, inr, ℕ, ◌+◌, ◌++◌, List, [], ◌∷◌, Option}
 use Rattle.std.proofs.Common.{refl, ap, sym, ◌∙◌, append_assoc, append-nil, take, arith}
 use Rattle.dev_io.proofs.Parts.{taken_on}
 use Rattle.gathered_out.specs.Pieces.{Piece}
@@ -7,13 +7,13 @@ use Rattle.gathered_out.specs.Puts.{holding}
 use Rattle.gathered_out.proofs.Buffers.{Buffers, buffers_more}
 use Rattle.gp0_packets.specs.declared.note.Note.{Note}
 use Rattle.gpu_capture.specs.Capture.{Captured, ended, then_events}
-use Rattle.gpu_capture.specs.Reader.{AreNeeded as ReaderNeeds, capture_from, work_left, reader_input}
+use Rattle.gpu_capture.specs.Reader.{capture_from, reader_input}
 use Rattle.gpu_capture.specs.Words.{TakesWords, word_events}
 use Rattle.gpu_capture.specs.declared.event.Event.{Event}
 use Rattle.gpu_capture.specs.declared.event.Event.TheVariants.{Gp0}
-use Rattle.gpu_capture.specs.declared.event.Stop.{Stop}
 use Rattle.gpu_capture.specs.declared.event.Stop.TheVariants.{Truncated}
 use Rattle.gpu_capture.specs.declared.progress.Progress.{Progress}
+use Rattle.gpu_capture.proofs.Needed.{says_on}
 use Rattle.gpu_capture.proofs.Steps.{split}
 use Rattle.gpu_capture.proofs.Taken.{few_between}
 use Rattle.gpu_taps.specs.Tally.{Reading}
@@ -29,10 +29,13 @@ use Rattle.event_play.specs.declared.ending.Mode.{Mode}
 use Rattle.event_play.specs.declared.ending.Mode.TheVariants.{Vram, Shot, Report, Frames, Sums, Pixel}
 use Rattle.event_play.specs.declared.ending.Mode.TheVariants.{List as Listing, Play as Words}
 use Rattle.event_play.proofs.AtOnce.{word_is}
-use Rattle.event_play.proofs.Awaiting.{AreFew, GoesOn, LiesAfter, PlaysOn, Reaches, events_left, goes_past}
-use Rattle.event_play.proofs.Following.{follows_none, follows_on, follows_all, read_words, then_both}
+use Rattle.event_loop.proofs.Awaiting.{LiesAfter}
+use Rattle.event_loop.proofs.Blocks.{reader_none}
+use Rattle.event_play.proofs.Awaiting.{AreFew, GoesOn, PlaysOn, Reaches, goes_past}
+use Rattle.event_play.proofs.Following.{follows_none, follows_on, follows_all, read_words}
 use Rattle.event_play.proofs.Lacking.{WasDue, due_more, due_on}
 use Rattle.event_play.proofs.Listed.{words_buffered}
+use Rattle.event_play.proofs.OwnWords.{same_ram, same_running}
 use Rattle.event_play.proofs.Reaching.{goes_on}
 
 -- ---- replays
@@ -96,10 +99,6 @@ quiet_lines Report t (word ∷ words) quiet = refl
 quiet_lines (Frames at) t (word ∷ words) quiet = quiet_lines (Frames at) (after_word t word) words tt
 quiet_lines (Sums at) t (word ∷ words) quiet = quiet_lines (Sums at) (after_word t word) words tt
 
-same_ram : (t : Replay) (words : List ℕ) → (after_words t words).state.ram ≡ t.state.ram
-same_ram t [] = refl
-same_ram t (word ∷ words) = same_ram (after_word t word) words
-
 unwatched_cost : (mode : Mode) (t : Replay) (words : List ℕ) → AreUnwatched mode words
     → lines_cost mode (after_words t words).frames (after_words t words).changes ≡ lines_cost mode t.frames t.changes
 unwatched_cost mode t [] unwatched = refl
@@ -111,10 +110,6 @@ unwatched_cost Shot t (word ∷ words) unwatched = refl
 unwatched_cost Report t (word ∷ words) unwatched = refl
 unwatched_cost (Frames at) t (word ∷ words) unwatched = unwatched_cost (Frames at) (after_word t word) words tt
 unwatched_cost (Sums at) t (word ∷ words) unwatched = unwatched_cost (Sums at) (after_word t word) words tt
-
-same_running : (t : Replay) (words : List ℕ) → (after_words t words).state.running ≡ t.state.running
-same_running t [] = refl
-same_running t (word ∷ words) = same_running (after_word t word) words
 
 -- A mode that may have a buffer may have these pieces in it too.
 free_on : (mode : Mode) (buffered : List Piece) (notes : List Note) → MayBuffer mode buffered
@@ -160,11 +155,6 @@ module _ (script : List ℕ → Script) (t : Replay) (words : List ℕ) (events 
   buffers_words (Frames at) unwatched listing so_far = quiet_buffers (Frames at) tt so_far
   buffers_words (Sums at) unwatched listing so_far = quiet_buffers (Sums at) tt so_far
 
--- Of no bytes, none is unnecessary.
-none_needed : (p : Progress) → ReaderNeeds p []
-none_needed p [] more is some = absurd (some (sym is))
-none_needed p (x ∷ part) more is some = absurd cc
-
 -- The GPU, the taps and the store steps are those of the replay so far.
 pub told_before : (mode : Mode) (script : List ℕ → Script) (before : Streams) (left held : Option (List ℕ))
     (heard : List Reading) (steps : ℕ) (buffered : List Piece) (since : ℕ) (was : RigState) (p : Progress)
@@ -198,10 +188,8 @@ module _ (mode : Mode) (script : List ℕ → Script) (before : Streams) (left a
         known = lies.known;
         offset = lies.offset;
         events = lies.events ++ word_events words;
-        says = λ rest.
-            ap (capture_from lies.at) (append_assoc reached.after takes.taken rest)
-            ∙ lies.says (takes.taken ++ rest) ∙ ap (then_events lies.events) (takes.says rest)
-            ∙ then_both lies.events (word_events words) (capture_from q rest);
+        says = says_on (capture_from lies.at) p q lies.events (word_events words) reached.after takes.taken lies.says
+            takes.says;
       }
 
   still_few : (takes : TakesWords (reader_input p left) (reader_input q after) words)
@@ -211,7 +199,7 @@ module _ (mode : Mode) (script : List ℕ → Script) (before : Streams) (left a
       let lt = near is in
       let at = lies.offset in
       let few = few_between lies.at q lies.events (reached.after ++ takes.taken) [] lies.known started lies.says
-      (omega (arith, lt, at)) (none_needed q) in
+      (omega (arith, lt, at)) (reader_none q) in
       omega (arith, few)
 
   still_buffers : (takes : TakesWords (reader_input p left) (reader_input q after) words)
@@ -306,11 +294,3 @@ lines_out mode script before left held now heard steps buffered pieces new rig S
   heard = reached.heard;
   cost = reached.cost;
 }
-
--- Fewer events remain to be played.
-pub left_less : (old mid new : Progress) (was next : Result Event Stop) (event : Event) → was ≡ Ok event
-    → work_left mid ≤ work_left old → OnOk next (work_left new < work_left mid)
-    → events_left new next < events_left old was
-left_less old mid new was (Ok more) event is le less =
-    rw is (let lt : work_left new < work_left old = omega (arith, le, less) in omega (arith, lt))
-left_less old mid new was (Err stop) event is le less = rw is (omega arith)

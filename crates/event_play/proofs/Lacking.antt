@@ -9,7 +9,7 @@ use Rattle.gpu_capture.specs.declared.event.Stop.{Stop}
 use Rattle.gpu_taps.specs.Tally.{Reading}
 use Rattle.event_play.specs.Lines.{IsBuffered}
 use Rattle.event_play.specs.Out.{lines_of, out_bytes}
-use Rattle.event_play.specs.Pausing.{most_after}
+use Rattle.event_loop.specs.Pausing.{most_after}
 use Rattle.event_play.specs.Playing.{Follows, LacksBytes, LeadsTo, plays, reads}
 use Rattle.event_play.specs.Replay.{Replay, Script, after_event, go_on, played_events, replayed, next_number}
 use Rattle.event_play.specs.Streams.{Streams}

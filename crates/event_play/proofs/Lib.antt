@@ -15,6 +15,7 @@ pub mod Reaching
 pub mod Reports
 pub mod Rests
 pub mod Turns
+pub mod Opened
 pub mod Operations
 pub mod Firsts
 pub mod Following

@@ -29,7 +29,8 @@ use Rattle.event_play.specs.Replay.{Replay, Script, next_number}
 use Rattle.event_play.specs.declared.ending.Mode.TheVariants.{List as Listing}
 use Rattle.event_play.proofs.AtOnce.{same_numbers, word_is}
 use Rattle.event_play.proofs.Feeds.{word_lines}
-use Rattle.event_play.proofs.Following.{follows_on, needed_on}
+use Rattle.event_loop.proofs.Blocks.{needed_more}
+use Rattle.event_play.proofs.Following.{follows_on}
 use Rattle.event_play.proofs.Lacking.{WasDue, due_on}
 
 -- ---- notes
@@ -234,7 +235,7 @@ module _ (script : List ℕ → Script) (first : Replay) (flushed after further 
     between = after;
     rest = further;
     taken_is = taken_is;
-    needed = needed_on (reads script) events (Gp0 word ∷ []) (flushed ++ after) needed;
+    needed = needed_more (reads script) events (Gp0 word ∷ []) (flushed ++ after) needed;
   }
 
   pub words_buffered : (words : List ℕ) (t : Replay) (events : List Event) (buffered : List Piece)
@@ -259,7 +260,7 @@ module _ (script : List ℕ → Script) (first : Replay) (flushed after further 
       Buffers (WasDue Listing script (events ++ Gp0 word ∷ []) flushed taken) base all held (buffered ++ ps) in
       let next = words_buffered words (after_word t word) (events ++ Gp0 word ∷ []) (buffered ++ ps)
       (follows_on first t (after_word t word) events (Gp0 word) follows (word_is t word))
-      (needed_on (reads script) events (Gp0 word ∷ []) (flushed ++ after) needed)
+      (needed_more (reads script) events (Gp0 word ∷ []) (flushed ++ after) needed)
       (subst P (sym (flat_map-append listed t.notes note)) one) in
       let Q : List Event → List Piece → Type 0 = λ all pieces. Buffers (WasDue Listing script all flushed taken) base
       (lines_of Listing (after_words t (word ∷ words))) held pieces in

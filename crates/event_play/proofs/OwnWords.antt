@@ -15,11 +15,11 @@ use Rattle.event_play.specs.Stepping.{HasStepped, numbered}
 use Rattle.event_play.specs.Streams.{Outlets, without_sink}
 use Rattle.event_play.specs.Told.{told_notes}
 
-same_ram : (t : Replay) (words : List ℕ) → (after_words t words).state.ram ≡ t.state.ram
+pub same_ram : (t : Replay) (words : List ℕ) → (after_words t words).state.ram ≡ t.state.ram
 same_ram t [] = refl
 same_ram t (word ∷ words) = same_ram (after_word t word) words
 
-same_running : (t : Replay) (words : List ℕ) → (after_words t words).state.running ≡ t.state.running
+pub same_running : (t : Replay) (words : List ℕ) → (after_words t words).state.running ≡ t.state.running
 same_running t [] = refl
 same_running t (word ∷ words) = same_running (after_word t word) words
 

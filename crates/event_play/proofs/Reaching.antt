@@ -1,10 +1,10 @@
 -- Playing a capture, event by event.
 use Rattle.std.proofs.Common.{◌≡◌, ◌≤◌, inl, inr, ℕ, ◌+◌, ◌++◌, List, [], ◌∷◌, Option, None, Ok}
-use Rattle.std.proofs.Common.{option_to_list, refl, ap, sym, subst, ◌∙◌, append_assoc, append-nil, arith}
+use Rattle.std.proofs.Common.{option_to_list, refl, ap, sym, subst, ◌∙◌, append_assoc, arith}
 use Rattle.std.proofs.Common.{length, length-append}
-use Rattle.dev_io.specs.Device.{appended, AppendsPart}
+use Rattle.dev_io.specs.Device.{AppendsPart}
 use Rattle.dev_io.proofs.Appended.{appended-nil}
-use Rattle.gathered_out.specs.Pieces.{AreOut, Piece, bytes_of, piece}
+use Rattle.gathered_out.specs.Pieces.{AreOut, Piece, piece}
 use Rattle.gathered_out.specs.Puts.{BreaksWriting, IsPut, holding}
 use Rattle.gathered_out.proofs.Buffers.{BreaksDue, Buffers, breaks_put, buffers_more, buffers_off}
 use Rattle.gathered_out.proofs.Buffers.{buffers_on, buffers_written}
@@ -15,14 +15,19 @@ use Rattle.gpu_capture.specs.declared.event.Event.{Event}
 use Rattle.gpu_capture.specs.declared.progress.Progress.{Progress}
 use Rattle.gpu_taps.specs.Tally.{Reading}
 use Rattle.event_play.specs.Ends.{PlaysEvent, ShowsPart, FeedsPart, FaultsEvent, EndsEvent}
-use Rattle.event_play.specs.Ends.{next_event, event_lines, event_lines_cost}
+use Rattle.event_play.specs.Ends.{next_event, event_lines, event_lines_cost, play_ending}
 use Rattle.event_play.specs.Frames.{frames_after}
 use Rattle.event_play.specs.Fed.{fed_notes}
 use Rattle.event_play.specs.Feeding.{fed_lines}
 use Rattle.event_play.specs.Lines.{IsBuffered, MayBuffer, WritesAfter, lines_for}
 use Rattle.event_play.specs.Out.{lines_of, replay_cost, out_bytes}
 use Rattle.event_play.specs.Out.{out_cost}
-use Rattle.event_play.specs.Pausing.{EndsAfter, WritesBefore}
+use Rattle.event_loop.proofs.Awaiting.{held_all}
+use Rattle.event_loop.specs.Closing.{EndsAfter, WritesBefore}
+use Rattle.event_loop.specs.declared.ended.Ended.{Ended}
+use Rattle.event_loop.specs.declared.ended.Ended.TheVariants.{Refused}
+use Rattle.event_loop.specs.declared.ended.Halt.{Halt}
+use Rattle.event_loop.specs.declared.ended.Halt.TheVariants.{Lacks, Refuses}
 use Rattle.event_play.specs.Playing.{SaysEnding, EndsPlay, IsLast, DueIn, LeadsTo, plays, whole}
 use Rattle.event_play.specs.Replay.{Replay, Script, part_fed, after_event, go_on, played_events, replayed, next_number}
 use Rattle.event_play.specs.RigState.{RigState, StandsFor}
@@ -31,7 +36,7 @@ use Rattle.event_play.specs.Streams.{Outlets, Streams, streams}
 use Rattle.event_play.specs.Changes.{event_changes}
 use Rattle.event_play.specs.Told.{told_notes}
 use Rattle.event_play.specs.declared.ending.Ending.{Ending}
-use Rattle.event_play.specs.declared.ending.Ending.TheVariants.{Done, Stopped, Faulted, NoPicture, WriteFailed}
+use Rattle.event_play.specs.declared.ending.Ending.TheVariants.{Faulted, WriteFailed}
 use Rattle.event_play.specs.declared.ending.Mode.{Mode}
 use Rattle.event_play.specs.declared.ending.Mode.TheVariants.{Vram, Shot, Report, Frames, Sums, Pixel}
 use Rattle.event_play.specs.declared.ending.Mode.TheVariants.{List as Listing, Play as Words}
@@ -65,7 +70,7 @@ lines_more mode t event machine shown notes = lines-append mode t.shown (option_
     t.frames (frames_after event (next_number t.played) machine.gpu.parts) t.notes notes t.changes
     (event_changes t.state (next_number t.played) event)
 
-heard_on : (before mid now : List Reading) (told notes : List Note) → mid ≡ told_notes told before
+pub heard_on : (before mid now : List Reading) (told notes : List Note) → mid ≡ told_notes told before
     → now ≡ told_notes notes mid → now ≡ told_notes (told ++ notes) before
 heard_on before mid now told notes was took = took ∙ ap (told_notes notes) was ∙ sym (told-append told notes before)
 
@@ -102,18 +107,6 @@ due_after Report t last event after is = absurd after
 -- the sink, the taps and the store steps, with the bytes left of the source
 abbrev pub beside : Option (List ℕ) → Outlets → Streams
 beside left at = streams left at.held at.heard at.steps
-
--- With an empty buffer, all output was written.
-pub held_all : (mode : Mode) (script : List ℕ → Script) (events : List Event) (flushed taken : List ℕ)
-    (base : Option (List ℕ)) (all : List ℕ) (held : Option (List ℕ)) (buffered : List Piece) → buffered ≡ []
-    → Buffers (WasDue mode script events flushed taken) base all held buffered → held ≡ appended base all
-held_all mode script events flushed taken base all held buffered none buffers =
-    buffers_written (WasDue mode script events flushed taken) base all held held buffered buffers (record {
-      stands = λ mid pieces out.
-          let are : pieces ≡ out.written = out.are ∙ ap (λ (ps : List Piece). out.written ++ ps) none
-          ∙ append-nil out.written in
-          out.stands ∙ ap (λ ps. appended mid (bytes_of ps)) (sym are);
-    })
 
 -- In a mode with output after an event, the buffer is empty.
 none_buffered_for : (mode : Mode) (buffered : List Piece) → WritesAfter mode → MayBuffer mode buffered → buffered ≡ []
@@ -237,12 +230,12 @@ module _ (mode : Mode) (script : List ℕ → Script) (before : Streams) (left :
         tt stands heard cost
 
     -- the event has a fault, and the buffer is flushed or the flush failed
-    fault_ends : (number : ℕ) (fault : EventFault) (held : Option (List ℕ)) (result : Ending)
-        → number ≡ next_number reached.replay.played
+    fault_ends : (fault : EventFault) (held : Option (List ℕ)) (result : Ended EventFault)
         → FaultsEvent (next_event reached.replay event) fault (play_state mid was) (play_state now rig)
-        → WritesBefore (Faulted number fault) now.buffered now.held held result
-        → EndsPlay mode script before (at_end (streams left held now.heard now.steps) rig) result
-    fault_ends number fault held result at faults writes =
+        → WritesBefore (Refused fault) now.buffered now.held held result
+        → EndsPlay mode script before (at_end (streams left held now.heard now.steps) rig)
+        (play_ending result (next_number rig.played))
+    fault_ends fault held result faults writes =
         let t = reached.replay in
         let says = reached.says.says in
         let due = WasDue mode script reached.events reached.flushed reached.taken in
@@ -253,6 +246,8 @@ module _ (mode : Mode) (script : List ℕ → Script) (before : Streams) (left :
         let heard : now.heard ≡ mid.heard = ap (λ (at : Outlets). at.heard) faults.unchanged in
         let steps : now.steps ≡ mid.steps = ap (λ (at : Outlets). at.steps) faults.unchanged in
         let stands : StandsFor rig t = rw faults.stands reached.stands in
+        let number = next_number rig.played in
+        let at = ap next_number (sym stands.played) in
         let cost = λ (rest : List ℕ).
         cost_within mode t (plays script (reached.taken ++ rest)) (then_events (event ∷ []) (capture_from p rest))
         before.steps now.steps (says rest) (omega (arith, reached.cost, steps)) in
@@ -281,8 +276,9 @@ module _ (mode : Mode) (script : List ℕ → Script) (before : Streams) (left :
         → EndsPlay mode script before (at_end (beside left now) rig) (WriteFailed number)
     shows_ends number at parts =
         let t = reached.replay in
-        let stood = held_all mode script reached.events reached.flushed reached.taken before.held (lines_of mode t)
-        mid.held mid.buffered (none_buffered_for mode mid.buffered parts.mode_is reached.free) reached.buffers in
+        let stood = held_all (WasDue mode script reached.events reached.flushed reached.taken) before.held
+        (lines_of mode t) mid.held mid.buffered (none_buffered_for mode mid.buffered parts.mode_is reached.free)
+        reached.buffers in
         let next = replay_on t event parts.step.machine parts.shown parts.step.notes in
         let due = event_lines mode (next_event t event) (showing parts.step.machine parts.shown parts.step.notes) in
         let is = after-event t event parts.step.machine parts.shown parts.step.notes parts.step.is in
@@ -360,14 +356,11 @@ module _ (mode : Mode) (script : List ℕ → Script) (before : Streams) (left :
         (part_cost mode t.state.gpu n stop.before stop.word stop.after
         (event_cost t.state event) mid.steps now.steps feeds.cost stop.cost))))
 
-    pub event_ends : (ending : Ending) (held : Option (List ℕ)) (result : Ending)
-        → EndsEvent mode (next_event reached.replay event) (play_state mid was) (play_state now rig) ending
-        → EndsAfter ending now.buffered now.held held result
-        → EndsPlay mode script before (at_end (streams left held now.heard now.steps) rig) result
-    event_ends (Faulted number fault) held result ends after = fault_ends number fault held result ends.0 ends.1 after
-    event_ends (WriteFailed number) held result (inl parts) after = rw (after.0, after.1) (feeds_ends number parts)
-    event_ends (WriteFailed number) held result (inr (at, parts)) after =
-        rw (after.0, after.1) (shows_ends number at parts)
-    event_ends (NoPicture number) held result ends after = absurd ends
-    event_ends Done held result ends after = absurd ends
-    event_ends (Stopped number stop) held result ends after = absurd ends
+    pub event_ends : (halt : Halt EventFault) (held : Option (List ℕ)) (result : Ended EventFault)
+        → EndsEvent mode (next_event reached.replay event) (play_state mid was) (play_state now rig) halt
+        → EndsAfter halt now.buffered now.held held result
+        → EndsPlay mode script before (at_end (streams left held now.heard now.steps) rig)
+        (play_ending result (next_number rig.played))
+    event_ends (Refuses fault) held result ends after = fault_ends fault held result ends after
+    event_ends (Lacks number) held result (inl parts) after = rw (after.0, after.1) (feeds_ends number parts)
+    event_ends (Lacks number) held result (inr (at, parts)) after = rw (after.0, after.1) (shows_ends number at parts)

@@ -30,7 +30,8 @@ use Rattle.event_play.proofs.BoxCosts.{AreSmall, within_boxes}
 use Rattle.event_play.proofs.Following.{ReadsAll, leads_all, reads_all}
 use Rattle.event_play.proofs.Grows.{cost_within}
 use Rattle.event_play.proofs.Lacking.{WasDue, lacks_lines}
-use Rattle.event_play.proofs.Reaching.{beside, buffers_of, held_all, spent_on}
+use Rattle.event_loop.proofs.Awaiting.{held_all}
+use Rattle.event_play.proofs.Reaching.{beside, buffers_of, spent_on}
 use Rattle.event_play.specs.PlayInput.{at_end, play_input, replay_pair}
 
 -- ---- a pause
@@ -93,8 +94,8 @@ module _ (mode : Mode) (script : List ℕ → Script) (before : Streams) (left :
     (same : now.heard ≡ mid.heard) where
   -- all output so far was written
   pub stood : mid.held ≡ appended before.held (lines_of mode reached.replay)
-  stood = held_all mode script reached.events reached.flushed reached.taken before.held (lines_of mode reached.replay)
-      mid.held [] refl reached.buffers
+  stood = held_all (WasDue mode script reached.events reached.flushed reached.taken) before.held
+      (lines_of mode reached.replay) mid.held [] refl reached.buffers
 
   -- an ending after the last event, from what it says and the store steps of the output
   ends_after : (ending : Ending)

@@ -1,15 +1,20 @@
 -- One event that is played, and the output after the last one.
 use Rattle.std.specs.Prelude.{◌≡◌, ◌≤◌, ◌⊎◌, Bool, ℕ, ◌+◌, List, Option, Result, Err, OnOk, IfErr, option_to_list}
 use Rattle.std.specs.Prelude.{true, false}
+use Rattle.gathered_out.specs.Causes.{Causes}
 use Rattle.gathered_out.specs.Pieces.{piece}
 use Rattle.gathered_out.specs.Puts.{BreaksPut, BreaksWriting, IsPut, IsWritten, holding}
-use Rattle.dev_io.specs.Device.{Rose, appended, AppendsPart}
+use Rattle.dev_io.specs.Device.{appended, AppendsPart}
+use Rattle.event_loop.specs.Halting.{FailsWriting}
+use Rattle.event_loop.specs.declared.ended.Ended.{Ended}
+use Rattle.event_loop.specs.declared.ended.Ended.TheVariants as ended
+use Rattle.event_loop.specs.declared.ended.Halt.{Halt}
+use Rattle.event_loop.specs.declared.ended.Halt.TheVariants.{Lacks, Refuses}
 use Rattle.gpu_capture.specs.declared.event.Event.{Event}
 use Rattle.gpu_capture.specs.declared.event.Stop.{Stop}
 use Rattle.gpu_capture.specs.declared.event.Stop.TheVariants.{End}
 use Rattle.gpu_core.specs.Machine.{State}
 use Rattle.gpu_taps.specs.Tally.{Reading}
-use Rattle.event_play.specs.Causes.{MayReadFault, MayWriteFault, IsEnding}
 use Rattle.event_play.specs.Feeding.{StopsFeeding, drawing, due_lines, in_event}
 use Rattle.event_play.specs.Frames.{frames_after}
 use Rattle.event_play.specs.Lines.{IsBuffered, MayBuffer, WritesAfter, lines_for, lines_cost}
@@ -94,26 +99,29 @@ pub record FaultsEvent (comes : NextEvent) (fault : EventFault) (before now : Pl
   pub stands : now.rig ≡ before.rig
   pub unchanged : now.out ≡ before.out
 
--- How an event ends playing. The ending has the event's number, except for a failed write of buffered lines.
-abbrev pub EndsEvent : Mode → NextEvent → (before now : PlayState) → Ending → Type 0
-EndsEvent mode comes before now (Faulted number fault) =
-    (number ≡ number_in comes) × FaultsEvent comes fault before now
-EndsEvent mode comes before now (WriteFailed number) =
+-- How an event ends playing: it is refused for its fault, or output is not complete, its own or buffered lines.
+abbrev pub EndsEvent : Mode → NextEvent → (before now : PlayState) → Halt EventFault → Type 0
+EndsEvent mode comes before now (Refuses fault) = FaultsEvent comes fault before now
+EndsEvent mode comes before now (Lacks number) =
     FeedsPart mode comes before.out now number ⊎ ((number ≡ number_in comes) × ShowsPart mode comes before.out now)
-EndsEvent mode comes before now ending = ⊥
 
 -- What a call that plays an event does, for every replay with which the rig agrees. Ok: playing continues.
 pub record PlaysOrEnds {Value : Type 0} (mode : Mode) (event : Event) (before now : PlayState)
-    (result : Result Value Ending) : Type 0 where
+    (result : Result Value (Halt EventFault)) : Type 0 where
   pub ok : (t : Replay) → StandsFor before.rig t → MayBuffer mode before.out.buffered
       → OnOk result (PlaysEvent mode (next_event t event) before.out now)
   pub ends : (t : Replay) → StandsFor before.rig t → MayBuffer mode before.out.buffered
       → IfErr result (EndsEvent mode (next_event t event) before now)
-  pub known : IfErr result (λ ending. IsEnding ending × (MayReadFault ending → ⊥))
-  pub cause : IfErr result (λ ending. MayWriteFault ending → Rose before.out.faults now.out.faults)
-  pub faults : before.out.faults ≤ now.out.faults
+  pub causes : Causes (FailsWriting result) before.out.faults now.out.faults
 
 -- ---- the end
+
+-- the ending of playing, from that of the loop; `number`: the number of the next event
+abbrev pub play_ending : Ended EventFault → (number : ℕ) → Ending
+play_ending ended.Done number = Done
+play_ending (ended.Stopped at stop) number = Stopped at stop
+play_ending (ended.Refused fault) number = Faulted number fault
+play_ending (ended.WriteFailed at) number = WriteFailed at
 
 abbrev pub IsNotEnd : Stop → Type 0
 IsNotEnd End = ⊥

@@ -15,7 +15,6 @@ pub mod Listing
 pub mod Out
 pub mod PlayedWords
 pub mod OwnWords
-pub mod Pausing
 pub mod Playing
 pub mod Ports
 pub mod Reading

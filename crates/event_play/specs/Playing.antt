@@ -11,7 +11,7 @@ use Rattle.event_play.specs.PlayInput.{Among, AtEnd, PlayInput, Due, ReplayPair,
 use Rattle.event_play.specs.PlayInput.{replay_pair}
 use Rattle.event_play.specs.Lines.{IsBuffered}
 use Rattle.event_play.specs.Out.{lines_of, final_bytes, ending_under, out_bytes, out_cost, out_box_cost}
-use Rattle.event_play.specs.Pausing.{most_after}
+use Rattle.event_loop.specs.Pausing.{most_after}
 use Rattle.event_play.specs.Replay.{Replay, Played, Script, after_event, part_fed, played_events, next_number}
 use Rattle.event_play.specs.Replay.{played_script}
 use Rattle.event_play.specs.RigState.{StandsFor}

@@ -8,7 +8,7 @@ ghost use Rattle.event_play.specs.RigState.{Stands};
 ghost use Rattle.event_play.specs.Step.{Machine};
 ghost use Rattle.event_play.specs.Streams.{without_sink};
 
-use crate::feed::feed_events;
+use crate::feed::{EventWords, feed_events};
 use crate::rig::Rig;
 use gp0_packets::Note;
 use gpu_taps::Listener;
@@ -47,6 +47,8 @@ impl Rig {
             (without_sink (map T.heard taps.old.items) steps.old)
             (without_sink (map T.heard taps.new.items) steps.new) self.new }
     {
-        self.played = feed_events(&mut self.gpu, self.played, words, taps, steps);
+        let played = self.played;
+        self.played = played.saturating_add(words.len() as u64);
+        feed_events(&mut self.gpu, EventWords { played, words }, taps, steps);
     }
 }

@@ -4,14 +4,15 @@ ghost use Rattle.event_play.specs.Ends.{PlaysOrEnds};
 ghost use Rattle.event_play.specs.PlayState.{play_state};
 ghost use Rattle.event_play.specs.Streams.{buffering, outlets};
 
-use crate::ending::{Ending, EventInMode, InEvent, InMode};
-use crate::feed::feed_word;
+use crate::ending::{EventInMode, InEvent, InMode};
+use crate::fault::EventFault;
 use crate::film::Played;
 use crate::finals::write_after;
 use crate::outlet::Lines;
 use crate::rig::Rig;
 use crate::validate::validate;
 use dev_io::Sink;
+use event_loop::Halt;
 use gathered_out::OutputBuffer;
 use gpu_capture::Event;
 use gpu_taps::Listener;
@@ -19,77 +20,32 @@ use std::sync::ledger::Ledger;
 use vram_store::Steps;
 
 impl Rig {
-    /// Plays one event, and adds or writes its output. Returns the ending if the event has a fault or a write fails.
+    /// Plays one event, and adds or writes its output. Refuses an event with a fault.
     pub(crate) fn play_event<K: Sink, T: Listener, L: Ledger>(
         &mut self,
         event: InMode<Event>,
-        lines: &mut OutputBuffer,
+        buffered: &mut OutputBuffer,
         out: &mut K,
         taps: &mut Vec<T>,
         steps: &mut Steps<L>,
-    ) -> Result<(), Ending>
+    ) -> Result<(), Halt<EventFault>>
         ensures { PlaysOrEnds event.mode event.value
-            (play_state (buffering lines.old (outlets (K.held out.old) (K.faults out.old)
+            (play_state (buffering buffered.old (outlets (K.held out.old) (K.faults out.old)
             (map T.heard taps.old.items) steps.old)) self.old)
-            (play_state (buffering lines.new (outlets (K.held out.new) (K.faults out.new)
+            (play_state (buffering buffered.new (outlets (K.held out.new) (K.faults out.new)
             (map T.heard taps.new.items) steps.new)) self.new) result }
     {
-        let lines = &mut Lines {
-            buffered: lines,
-            out,
-        };
-        let mode = event.mode;
-        match event.value {
-            Event::Gp0 { word } => self.play_word(InMode { value: word, mode }, lines, taps, steps),
-            _ => self.play_other(event, lines, taps, steps),
-        }
+        self.play_lines(event, &mut Lines { buffered, out }, taps, steps)
     }
 
-    // The same for a word written to GP0. It needs no validation, since it has no fault. It changes only the GPU and
-    // the number of events.
-    fn play_word<K: Sink, T: Listener, L: Ledger>(
-        &mut self,
-        word: InMode<u32>,
-        lines: &mut Lines<K>,
-        taps: &mut Vec<T>,
-        steps: &mut Steps<L>,
-    ) -> Result<(), Ending>
-        ensures plays { PlaysOrEnds word.mode (Event.Gp0 word.value)
-            (play_state (buffering lines.old.buffered.now
-            (outlets (K.held lines.old.out.now) (K.faults lines.old.out.now)
-            (map T.heard taps.old.items) steps.old)) self.old)
-            (play_state (buffering lines.new.buffered.now
-            (outlets (K.held lines.new.out.now) (K.faults lines.new.out.now)
-            (map T.heard taps.new.items) steps.new)) self.new) result }
-        ensures buffered { lines.new.buffered.ghost_name ≡ lines.old.buffered.ghost_name }
-        ensures out { lines.new.out.ghost_name ≡ lines.old.out.ghost_name }
-    {
-        let number = self.next_number();
-        let event_in_mode = EventInMode {
-            number,
-            mode: word.mode,
-        };
-        let given = InEvent {
-            event_in_mode,
-            value: word.value,
-        };
-        match feed_word(&mut self.gpu, given, lines, taps, steps) {
-            Ok(()) => {
-                self.played = number;
-                Ok(())
-            }
-            Err(event) => Err(Ending::WriteFailed { event }),
-        }
-    }
-
-    // The same for any other event.
-    fn play_other<K: Sink, T: Listener, L: Ledger>(
+    // The same with the buffer and the sink in one value.
+    fn play_lines<K: Sink, T: Listener, L: Ledger>(
         &mut self,
         event: InMode<Event>,
         lines: &mut Lines<K>,
         taps: &mut Vec<T>,
         steps: &mut Steps<L>,
-    ) -> Result<(), Ending>
+    ) -> Result<(), Halt<EventFault>>
         ensures plays { PlaysOrEnds event.mode event.value
             (play_state (buffering lines.old.buffered.now
             (outlets (K.held lines.old.out.now) (K.faults lines.old.out.now)
@@ -103,12 +59,7 @@ impl Rig {
         let number = self.next_number();
         let operation = match validate(&event.value, &mut self.walk, &self.ram, self.running) {
             Ok(operation) => operation,
-            Err(fault) => {
-                return Err(Ending::Faulted {
-                    event: number,
-                    fault,
-                });
-            }
+            Err(why) => return Err(Halt::Refuses { why }),
         };
         let event_in_mode = EventInMode {
             number,
@@ -119,7 +70,7 @@ impl Rig {
             value: operation,
         };
         match self.perform(given, lines, taps, steps) {
-            Err(event) => Err(Ending::WriteFailed { event }),
+            Err(event) => Err(Halt::Lacks { event }),
             Ok(shown) => {
                 self.played = number;
                 let played = Played {
@@ -128,7 +79,7 @@ impl Rig {
                     shown,
                 };
                 let Ok(()) = write_after(&self.gpu, played, lines.out, event.mode, steps) else {
-                    return Err(Ending::WriteFailed { event: number });
+                    return Err(Halt::Lacks { event: number });
                 };
                 Ok(())
             }

@@ -44,9 +44,9 @@ pub(crate) fn feed<O: Outlet, T: Listener, L: Ledger>(
     Ok(())
 }
 
-/// Feeds `word` to GP0. Adds the line of its note in mode `List`, and of its change of the cell in mode `Pixel`. On
-/// failure, returns the number of the first event whose lines are incomplete; the word has then been fed.
-pub(crate) fn feed_word<O: Outlet, T: Listener, L: Ledger>(
+// Feeds `word` to GP0. Adds the line of its note in mode `List`, and of its change of the cell in mode `Pixel`. On
+// failure, returns the number of the first event whose lines are incomplete; the word has then been fed.
+fn feed_word<O: Outlet, T: Listener, L: Ledger>(
     gpu: &mut Gpu,
     word: InEvent<u32>,
     lines: &mut O,
@@ -119,30 +119,34 @@ fn seen_cell<L: Ledger>(gpu: &Gpu, cell: Cell, steps: &mut Steps<L>) -> u16
     }
 }
 
-/// Feeds `words` to GP0 after `played` events, one event per word. Returns the new number of events. Writes no output.
-pub(crate) fn feed_events<T: Listener, L: Ledger>(
-    gpu: &mut Gpu,
-    played: u64,
-    words: &[u32],
-    taps: &mut Vec<T>,
-    steps: &mut Steps<L>,
-) -> u64
-    ensures { (t : Replay) (first : Outlets)
-        → IsTold t first (without_sink (map T.heard taps.old.items) steps.old) gpu.old played
-        → IsTold (after_words t words.now) first (without_sink (map T.heard taps.new.items) steps.new) gpu.new result }
-{
-    let mut number = played;
-    let mut at = 0;
-    'words: while at < words.len() {
-        let count = feed_first(gpu, number, &words[at..], taps, steps);
-        number = number.saturating_add(count as u64);
-        at += count;
-    }
-    number
+/// Words that are fed after `played` events, one event per word.
+#[derive(Clone, Copy)]
+pub(crate) struct EventWords<'a> {
+    pub(crate) played: u64,
+    pub(crate) words: &'a [u32],
 }
 
-/// Feeds a prefix of `words`, one event per word, as many as the GPU executes as one block. Returns its length, at
-/// least 1. There must be at least one word.
+/// Feeds words to GP0, one event per word. Writes no output.
+pub(crate) fn feed_events<T: Listener, L: Ledger>(
+    gpu: &mut Gpu,
+    fed: EventWords,
+    taps: &mut Vec<T>,
+    steps: &mut Steps<L>,
+)
+    ensures { (t : Replay) (first : Outlets)
+        → IsTold t first (without_sink (map T.heard taps.old.items) steps.old) gpu.old fed.entry.played
+        → IsTold (after_words t fed.entry.words.now) first (without_sink (map T.heard taps.new.items) steps.new) gpu.new
+        (number_after fed.entry.played (length fed.entry.words.now)) }
+{
+    let mut at = 0;
+    'words: while at < fed.words.len() {
+        let played = fed.played.saturating_add(at as u64);
+        at += feed_first(gpu, played, &fed.words[at..], taps, steps);
+    }
+}
+
+// Feeds a prefix of `words`, one event per word, as many as the GPU executes as one block. Returns its length, at
+// least 1. There must be at least one word.
 #[inline(always)]
 fn feed_first<T: Listener, L: Ledger>(
     gpu: &mut Gpu,

@@ -1,6 +1,7 @@
 // The output after an event, and after the last one.
 ghost use Rattle.std.specs.Prelude.{◌≡◌, ◌≤◌, ◌+◌, [], false, map, flat_map, option_to_list, OnErr};
-ghost use Rattle.dev_io.specs.Device.{Rose, Writes, side};
+ghost use Rattle.dev_io.specs.Device.{Writes, side};
+ghost use Rattle.gathered_out.specs.Causes.{Causes, Fails};
 ghost use Rattle.gpu_core.specs.Kept.{kept_of};
 ghost use Rattle.gpu_core.specs.Machine.{State};
 ghost use Rattle.packet_text.specs.Line.{word_line};
@@ -77,8 +78,7 @@ pub(crate) fn write_finals<K: Sink, T: Listener, L: Ledger>(
     ensures writes { (s : State) → kept_of s ≡ gpu.now →
         Writes (side K.held K.faults) out.old out.new
         (final_bytes event_in_mode.mode (map T.heard taps.now.items) event_in_mode.number s) result }
-    ensures cause { OnErr result (Rose (K.faults out.old) (K.faults out.new)) }
-    ensures faults { K.faults out.old ≤ K.faults out.new }
+    ensures causes { Causes (Fails result) (K.faults out.old) (K.faults out.new) }
     ensures cost { (s : State) → kept_of s ≡ gpu.now → steps.new ≤ steps.old + final_cost event_in_mode.mode s }
 {
     match event_in_mode.mode {

@@ -28,7 +28,6 @@ pub use ending::{Ending, FrameTrigger, Mode};
 pub use fault::EventFault;
 pub use finals::write_report;
 pub use operation::{Operation, Words};
-pub use pause::write_at_pause;
 pub use play::TALL_VERSION;
 pub use rig::Rig;
 pub use words::WordCursor;

@@ -1,7 +1,7 @@
 // Words fed to GP0 with the lines of their notes, one event per word. As in feed.rt, a word may change everything that
 // playing changes.
-ghost use Rattle.std.specs.Prelude.{◌≡◌, ◌≤◌, ◌<◌, length, take, map, option_to_list, IfSome, OnErr};
-ghost use Rattle.dev_io.specs.Device.{Rose};
+ghost use Rattle.std.specs.Prelude.{◌≡◌, ◌≤◌, ◌<◌, length, take, map, option_to_list, IfSome};
+ghost use Rattle.gathered_out.specs.Causes.{Causes, Fails};
 ghost use Rattle.gathered_out.specs.Puts.{holding};
 ghost use Rattle.gpu_core.specs.Feeds.{but_pixels};
 ghost use Rattle.event_play.specs.Lines.{MayBuffer};
@@ -11,7 +11,7 @@ ghost use Rattle.event_play.specs.Replay.{Replay};
 ghost use Rattle.event_play.specs.Streams.{Outlets, without_sink};
 
 use crate::ending::Mode;
-use crate::feed::feed_events;
+use crate::feed::{EventWords, feed_events};
 use crate::outlet::{Lines, put_listed};
 use crate::rig::Rig;
 use dev_io::Sink;
@@ -36,7 +36,7 @@ impl Rig {
     pub(crate) fn play_words<K: Sink, T: Listener, L: Ledger>(
         &mut self,
         words: &ModeWords,
-        lines: &mut OutputBuffer,
+        buffered: &mut OutputBuffer,
         out: &mut K,
         taps: &mut Vec<T>,
         steps: &mut Steps<L>,
@@ -48,62 +48,70 @@ impl Rig {
         ensures puts { (t : Replay) (first : Outlets)
             → IsTold t first (without_sink (map T.heard taps.old.items) steps.old) self.old.gpu self.old.played
             → PutsPieces (pieces_for words.now.mode (word_notes t words.now.block))
-            (holding (K.held out.old) lines.old) (holding (K.held out.new) lines.new) result }
-        ensures free { MayBuffer words.now.mode lines.old → MayBuffer words.now.mode lines.new }
+            (holding (K.held out.old) buffered.old) (holding (K.held out.new) buffered.new) result }
+        ensures free { MayBuffer words.now.mode buffered.old → MayBuffer words.now.mode buffered.new }
         ensures ram { self.new.ram ≡ self.old.ram }
         ensures running { self.new.running ≡ self.old.running }
-        ensures cause { OnErr result (Rose (K.faults out.old) (K.faults out.new)) }
-        ensures faults { K.faults out.old ≤ K.faults out.new }
+        ensures causes { Causes (Fails result) (K.faults out.old) (K.faults out.new) }
     {
-        let fed = words.block.as_slice();
+        let played = self.played;
+        let fed = EventWords {
+            played,
+            words: words.block.as_slice(),
+        };
+        self.played = played.saturating_add(fed.words.len() as u64);
         match words.mode {
             Mode::List => {
-                let lines = &mut Lines {
-                    buffered: lines,
-                    out,
-                };
-                list_events(&mut self.gpu, &mut self.played, fed, lines, taps, steps)
+                list_events(
+                    &mut self.gpu,
+                    fed,
+                    &mut Lines { buffered, out },
+                    taps,
+                    steps,
+                )
             }
             _ => {
-                self.played = feed_events(&mut self.gpu, self.played, fed, taps, steps);
+                feed_events(&mut self.gpu, fed, taps, steps);
                 Ok(())
             }
         }
     }
 }
 
-// Feeds words after the events played, one event per word, and adds the line of each note except for pixels of a load.
-// If a line cannot be written, feeds the remaining words without lines, and returns the number of the first event whose
-// lines are incomplete.
+// Feeds words, one event per word, and adds the line of each note except for pixels of a load. If a line cannot be
+// written, feeds the remaining words without lines, and returns the number of the first event whose lines are
+// incomplete.
 fn list_events<K: Sink, T: Listener, L: Ledger>(
     gpu: &mut Gpu,
-    played: &mut u64,
-    words: &[u32],
+    fed: EventWords,
     lines: &mut Lines<K>,
     taps: &mut Vec<T>,
     steps: &mut Steps<L>,
 ) -> Result<(), u64>
     ensures told { (t : Replay) (first : Outlets)
-        → IsTold t first (without_sink (map T.heard taps.old.items) steps.old) gpu.old played.old
-        → IsTold (after_words t words.now) first (without_sink (map T.heard taps.new.items) steps.new)
-        gpu.new played.new }
+        → IsTold t first (without_sink (map T.heard taps.old.items) steps.old) gpu.old fed.entry.played
+        → IsTold (after_words t fed.entry.words.now) first (without_sink (map T.heard taps.new.items) steps.new)
+        gpu.new (number_after fed.entry.played (length fed.entry.words.now)) }
     ensures puts { (t : Replay) (first : Outlets)
-        → IsTold t first (without_sink (map T.heard taps.old.items) steps.old) gpu.old played.old
-        → PutsPieces (listed_pieces (word_notes t words.now))
+        → IsTold t first (without_sink (map T.heard taps.old.items) steps.old) gpu.old fed.entry.played
+        → PutsPieces (listed_pieces (word_notes t fed.entry.words.now))
         (holding (K.held lines.old.out.now) lines.old.buffered.now)
         (holding (K.held lines.new.out.now) lines.new.buffered.now) result }
-    ensures cause { OnErr result (Rose (K.faults lines.old.out.now) (K.faults lines.new.out.now)) }
-    ensures faults { K.faults lines.old.out.now ≤ K.faults lines.new.out.now }
+    ensures causes { Causes (Fails result) (K.faults lines.old.out.now) (K.faults lines.new.out.now) }
     ensures buffered { lines.new.buffered.ghost_name ≡ lines.old.buffered.ghost_name }
     ensures out { lines.new.out.ghost_name ≡ lines.old.out.ghost_name }
 {
     let mut at = 0;
-    'words: while at < words.len() {
-        let fed = feed_noted(gpu, *played, &words[at..], taps, steps);
-        *played = played.saturating_add(fed.count as u64);
-        at += fed.count;
-        if let Err(lacking) = put_listed(&fed.note, lines) {
-            *played = feed_events(gpu, *played, &words[at..], taps, steps);
+    'words: while at < fed.words.len() {
+        let played = fed.played.saturating_add(at as u64);
+        let noted = feed_noted(gpu, played, &fed.words[at..], taps, steps);
+        at += noted.count;
+        if let Err(lacking) = put_listed(&noted.note, lines) {
+            let rest = EventWords {
+                played: fed.played.saturating_add(at as u64),
+                words: &fed.words[at..],
+            };
+            feed_events(gpu, rest, taps, steps);
             return Err(lacking);
         }
     }

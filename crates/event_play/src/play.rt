@@ -13,11 +13,12 @@ ghost use Rattle.event_play.specs.RigState.{Stands, StandsFor};
 ghost use Rattle.event_play.specs.Step.{Machine};
 ghost use Rattle.event_play.specs.Streams.{streams};
 
-use crate::ending::{Ending, InMode, Mode};
+use crate::ending::{Ending, InMode, Mode, play_ending};
 use crate::listing::ModeWords;
-use crate::pause::{end_after, write_at_pause, write_before_words};
+use crate::pause::write_before_words;
 use crate::rig::Rig;
 use dev_io::{Sink, Source};
+use event_loop::{end_after, write_at_pause};
 use gathered_out::OutputBuffer;
 use gpu_capture::{EventReader, Stop, WordBlock};
 use gpu_taps::Listener;
@@ -98,8 +99,8 @@ impl Rig {
             match next {
                 Ok(event) => {
                     let given = InMode { value: event, mode };
-                    if let Err(ending) = self.play_event(given, &mut lines, out, taps, steps) {
-                        return end_after(ending, &mut lines, out);
+                    if let Err(halt) = self.play_event(given, &mut lines, out, taps, steps) {
+                        return play_ending(end_after(halt, &mut lines, out), self.next_number());
                     }
                     match write_before_words(reader, since, &mut lines, out) {
                         Ok(offset) => since = offset,

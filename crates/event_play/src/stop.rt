@@ -1,6 +1,6 @@
 // Ends playing when the reader stops.
-ghost use Rattle.std.specs.Prelude.{◌≡◌, ◌≤◌, map};
-ghost use Rattle.dev_io.specs.Device.{Rose};
+ghost use Rattle.std.specs.Prelude.{◌≡◌, map};
+ghost use Rattle.gathered_out.specs.Causes.{Causes};
 ghost use Rattle.gpu_capture.specs.Reader.{IsReadFault};
 ghost use Rattle.gpu_core.specs.Kept.{kept_of};
 ghost use Rattle.gpu_core.specs.Machine.{State};
@@ -35,8 +35,7 @@ impl Rig {
             (outlets (K.held out.new) (K.faults out.new) (map T.heard taps.now.items) steps.new) result }
         ensures known { IsEnding result }
         ensures stopped { MayReadFault result → IsReadFault stop.value }
-        ensures cause { MayWriteFault result → Rose (K.faults out.old) (K.faults out.new) }
-        ensures faults { K.faults out.old ≤ K.faults out.new }
+        ensures causes { Causes (MayWriteFault result) (K.faults out.old) (K.faults out.new) }
     {
         match lines.write(out) {
             Ok(()) => match stop.value {
@@ -64,8 +63,7 @@ impl Rig {
             (outlets (K.held out.new) (K.faults out.new) (map T.heard taps.now.items) steps.new) result }
         ensures known { IsEnding result }
         ensures unread { MayReadFault result → ⊥ }
-        ensures cause { MayWriteFault result → Rose (K.faults out.old) (K.faults out.new) }
-        ensures faults { K.faults out.old ≤ K.faults out.new }
+        ensures causes { Causes (MayWriteFault result) (K.faults out.old) (K.faults out.new) }
     {
         let event = self.next_number();
         if lacks_picture(&self.gpu, mode) {

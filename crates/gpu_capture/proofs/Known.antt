@@ -16,7 +16,7 @@ use Rattle.gpu_capture.specs.declared.record.Start.{Start}
 use Rattle.gpu_capture.specs.declared.record.Start.TheVariants as start
 use Rattle.gpu_capture.specs.declared.record.Step.{Step}
 use Rattle.gpu_capture.specs.declared.record.Step.TheVariants.{Opens, Gives, Closes}
-use Rattle.gpu_capture.proofs.Written.{records_version}
+use Rattle.gpu_capture.proofs.Versions.{records_version}
 
 abbrev pub IsKnown : ℕ → Event → Type 0
 IsKnown version event.Skip = 2 ≤ version
@@ -119,7 +119,7 @@ by_head : (version : Result ℕ ℕ) (bytes : List ℕ)
     → AreKnown (opened version bytes).version (opened version bytes).events
 by_head (Ok version) bytes =
     let P : ℕ → Type 0 = λ v. AreKnown v (records version expected.Tag 8 bytes).events in
-    subst P (sym (records_version bytes version expected.Tag 8)) (records_known bytes version expected.Tag 8)
+    subst P (sym (records_version version expected.Tag 8 bytes)) (records_known bytes version expected.Tag 8)
 by_head (Err offset) bytes = tt
 
 -- the same for all events of any bytes

@@ -15,7 +15,7 @@ after_step_law version (Opens next) on bytes keeps = keeps next
 after_step_law version (Gives event count next) on bytes keeps = keeps next
 after_step_law version (Closes stop) on bytes keeps = refl
 
-records_version : (version : ℕ) (at : Expected) (offset : ℕ) (bytes : List ℕ)
+pub records_version : (version : ℕ) (at : Expected) (offset : ℕ) (bytes : List ℕ)
     → (records version at offset bytes).version
     ≡ version
 records_version version at offset [] = elim

@@ -30,7 +30,7 @@ events-preserved g c = record {
   read_faults = omega (arith, c.events.invariant.read_faults, c.in-Ok-next.ensures.faults);
   write_faults =
       let was = c.events.invariant.write_faults in
-      omega (arith, was, c.in-Ok.ensures.faults, c.in-Ok-put_record.ensures.faults);
+      omega (arith, was, c.in-Ok.ensures.causes.kept, c.in-Ok-put_record.ensures.known.kept);
 }
 
 pub returns-in-Err-clause-ends : goal.returns-in-Err-clause-ends
@@ -55,3 +55,13 @@ returns-in-Err-next-clause-ends g c = λ cut before heard steps rig first.
     (g.K.Sink.held c.write_at_pause.new.out) at c.in-Ok.ensures.ok in
     reading_ends _ _ _ _ _ _ _ _ paused.comes _ _ _ paused.near c.in-Err-next.stop
     (c.in-Err-next.ensures.stop c.events.invariant.ready) _ c.end_reading.result refl c.end_reading.ensures.ends
+
+pub returns-in-Err-put_record-clause-writes : goal.returns-in-Err-put_record-clause-writes
+returns-in-Err-put_record-clause-writes g c =
+    let was = c.events.invariant.write_faults in
+    let paused = c.in-Ok.ensures.causes.kept in
+    let known = c.in-Err-put_record.ensures.known in
+    record {
+      kept = omega (arith, was, paused, known.kept);
+      cause = λ may. omega (arith, was, paused, known.ends.causes.cause may);
+    }

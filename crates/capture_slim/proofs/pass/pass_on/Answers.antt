@@ -82,7 +82,7 @@ events-preserved g c =
         arith,
         c.events.invariant.write_faults,
         c.take_event.ensures.faults,
-        c.in-Ok-write_at_pause.ensures.faults,
+        c.in-Ok-write_at_pause.ensures.causes.kept,
       );
     }
 

@@ -1,7 +1,7 @@
 use Rattle.std.proofs.Common.{◌≡◌, ◌≤◌, ◌<◌, ◌+◌, ◌^◌, None, OnOk, IfErr}
 use Rattle.dev_io.specs.Device.{Rose}
 use Rattle.gpu_capture.specs.Reader.{IsReadFault}
-use Rattle.event_play.proofs.Awaiting.{events_left}
+use Rattle.event_loop.proofs.Awaiting.{events_left}
 use Rattle.capture_slim.specs.File.{HasRoom}
 use Rattle.capture_slim.specs.Passing.{streams}
 use Rattle.capture_slim.proofs.Awaiting.{Awaits}

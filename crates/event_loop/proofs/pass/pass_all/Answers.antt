@@ -207,9 +207,9 @@ events-preserved g c =
         arith,
         c.events.invariant.write_faults,
         c.in-Ok-take.ensures.causes.kept,
-        c.in-Ok-write_at_pause.ensures.faults,
-        c.take_words.ensures.faults,
-        c.in-Ok-write_at_pause-2.ensures.faults,
+        c.in-Ok-write_at_pause.ensures.causes.kept,
+        c.take_words.ensures.causes.kept,
+        c.in-Ok-write_at_pause-2.ensures.causes.kept,
       );
       same = let on = g.met.P.Passage.same_on in
           on _ _ _ (on _ _ _ c.events.invariant.same c.in-Ok-take.ensures.same) c.take_words.ensures.same;

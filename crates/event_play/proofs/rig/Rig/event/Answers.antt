@@ -1,5 +1,5 @@
-use Rattle.event_play.specs.RigState.{RigState}
 use Rattle.event_play.proofs.Events.{step_fault, has_done, only_stepped}
+use Rattle.event_play.proofs.Opened.{opened}
 use Rattle.event_play.proofs.OwnWords.{word_steps}
 use Rattle.event_play.proofs.rig.Rig.event.Goals as goal
 
@@ -9,20 +9,8 @@ returns-in-Gp0-clause-stepped g c =
 
 pub returns-in-Ok-perform-clause-stepped : goal.returns-in-Ok-perform-clause-stepped
 returns-in-Ok-perform-clause-stepped g c =
-    let was : RigState = record {
-      gpu = c.self.inside.gpu;
-      ram = c.self.inside.ram;
-      running = c.self.inside.running;
-      played =
-          c.self.inside.played;
-    } in
-    let mid : RigState = record {
-      gpu = c.self-in-Ok.inside.gpu;
-      ram = c.self-in-Ok.inside.ram;
-      running = c.self-in-Ok.inside.running;
-      played =
-          c.self-in-Ok.inside.played;
-    } in
+    let was = opened c.self.inside in
+    let mid = opened c.self-in-Ok.inside in
     let did = has_done _ was mid _ c.next_number.result _ _ _ _ _ _ c.in-Ok.ensures.value c.self-in-Ok.view_is
     c.in-Ok-perform.ensures.performs.ok in
     rw (← c.self.view_is, ← c.next_number.ensures) (λ s stands.

@@ -6,7 +6,7 @@ use Rattle.event_play.proofs.Awaiting.{awaits_is, pauses_on, reads, starts}
 use Rattle.event_play.proofs.BoxCosts.{from_small}
 use Rattle.event_play.proofs.Reaching.{event_ends, plays_on}
 use Rattle.event_play.proofs.Stopping.{pause_ends, reading_ends}
-use Rattle.event_play.proofs.InARow.{left_less}
+use Rattle.event_loop.proofs.Awaiting.{left_less}
 use Rattle.event_play.proofs.Together.{words_fail, words_stop, words_went}
 use Rattle.event_play.proofs.rig.Rig.play_from.Goals as goal
 
@@ -29,10 +29,11 @@ events-init g c = record {
 pub returns-in-Err-play_event-clause-ends : goal.returns-in-Err-play_event-clause-ends
 returns-in-Err-play_event-clause-ends g c = λ s e.
     let awaits = awaits_is _ _ _ _ _ _ _ _ _ _ c.in-Ok.is (c.events.invariant.awaits s e) in
-    event_ends _ _ _ _ _ _ _ _ _ _ c.in-Ok.event awaits
+    rw (c.play_ending.ensures, c.next_number.ensures)
+    (event_ends _ _ _ _ _ _ _ _ _ _ c.in-Ok.event awaits
     (from_small s c.args.self.now.played c.args.reader.now.progress)
-    c.in-Err-play_event.ending (g.K.Sink.held c.end_after.new.out) c.end_after.result
-    (c.in-Err-play_event.ensures.ends awaits.replay awaits.stands awaits.free) c.end_after.ensures.ends
+    c.in-Err-play_event.halt (g.K.Sink.held c.end_after.new.out) c.end_after.result
+    (c.in-Err-play_event.ensures.ends awaits.replay awaits.stands awaits.free) c.end_after.ensures.ends)
 
 pub returns-in-Err-clause-ends : goal.returns-in-Err-clause-ends
 returns-in-Err-clause-ends g c = λ s e.
@@ -65,7 +66,7 @@ returns-in-Err-play_words-clause-ends g c = λ s e.
     paused.reached read.suit.unwatched c.play_words.ensures.ram c.play_words.ensures.running
     c.play_words.ensures.told (rw read.goes_on.version started)
     (λ is. let few = read.suit.few is in let near = c.in-Ok-write_before_words.ensures.near in omega (arith, few, near))
-    (g.K.Sink.held c.play_words.new.out) c.play_words.new.lines c.in-Err-play_words.event c.read_words-read.result
+    (g.K.Sink.held c.play_words.new.out) c.play_words.new.buffered c.in-Err-play_words.event c.read_words-read.result
     (rw c.events.invariant.mode at c.in-Err-play_words.ensures.puts) read.takes read.stop
     (from_small s c.args.self.now.played c.args.reader.now.progress)
 
@@ -82,11 +83,11 @@ returns-in-Err-read-clause-ends g c = λ s e.
     paused.reached read.suit.unwatched c.play_words.ensures.ram c.play_words.ensures.running
     c.play_words.ensures.told (rw read.goes_on.version started)
     (λ is. let few = read.suit.few is in let near = c.in-Ok-write_before_words.ensures.near in omega (arith, few, near))
-    (g.K.Sink.held c.play_words.new.out) c.play_words.new.lines c.in_default-play_words.field-0 c.in-Err-read.stop
+    (g.K.Sink.held c.play_words.new.out) c.play_words.new.buffered c.in_default-play_words.field-0 c.in-Err-read.stop
     (rw c.events.invariant.mode at c.in_default-play_words.ensures.puts)
     ((rw c.events.invariant.mode at c.play_words.ensures.free) paused.reached.free)
     c.in-Err-read.ensures.stop in
-    let mid = buffering c.play_words.new.lines (outlets (g.K.Sink.held c.play_words.new.out)
+    let mid = buffering c.play_words.new.buffered (outlets (g.K.Sink.held c.play_words.new.out)
     (g.K.Sink.faults c.play_words.new.out) (map g.T.Listener.heard c.play_words.new.taps.items)
     c.play_words.new.steps) in
     reading_ends _ _ _ _ mid _ _ _ _ c.in-Err-read.stop stopped
@@ -108,7 +109,7 @@ returns-in-Err-write_at_pause-clause-ends g c = λ s e.
     paused.reached read.suit.unwatched c.play_words.ensures.ram c.play_words.ensures.running
     c.play_words.ensures.told (rw read.goes_on.version started)
     (λ is. let few = read.suit.few is in let near = c.in-Ok-write_before_words.ensures.near in omega (arith, few, near))
-    (g.K.Sink.held c.play_words.new.out) c.play_words.new.lines c.in_default-play_words.field-0
+    (g.K.Sink.held c.play_words.new.out) c.play_words.new.buffered c.in_default-play_words.field-0
     (rw c.events.invariant.mode at c.in_default-play_words.ensures.puts)
     ((rw c.events.invariant.mode at c.play_words.ensures.free) paused.reached.free)
     c.in_default-read.ensures.takes)
@@ -135,7 +136,7 @@ events-preserved g c =
           c.play_words.ensures.told (rw read.goes_on.version started)
           (λ is. let few = read.suit.few is in let near = c.in-Ok-write_before_words.ensures.near in
           omega (arith, few, near))
-          (g.K.Sink.held c.play_words.new.out) c.play_words.new.lines c.in_default-play_words.field-0
+          (g.K.Sink.held c.play_words.new.out) c.play_words.new.buffered c.in_default-play_words.field-0
           (rw c.events.invariant.mode at c.in_default-play_words.ensures.puts)
           ((rw c.events.invariant.mode at c.play_words.ensures.free) paused.reached.free)
           c.in_default-read.ensures.takes in
@@ -160,9 +161,9 @@ events-preserved g c =
       write_faults = omega (
         arith,
         c.events.invariant.write_faults,
-        c.in_default.ensures.faults,
-        c.in-Ok-write_before_words.ensures.faults,
-        c.play_words.ensures.faults,
-        c.in-Ok-write_at_pause.ensures.faults,
+        c.in_default.ensures.causes.kept,
+        c.in-Ok-write_before_words.ensures.causes.kept,
+        c.play_words.ensures.causes.kept,
+        c.in-Ok-write_at_pause.ensures.causes.kept,
       );
     }

@@ -5,7 +5,8 @@ use Rattle.event_play.specs.Replay.{from_state, script_after}
 use Rattle.event_play.specs.RigState.{Stands}
 use Rattle.event_play.specs.Step.{Machine}
 use Rattle.event_play.specs.Streams.{streams}
-use Rattle.event_play.proofs.Awaiting.{Awaits, events_left}
+use Rattle.event_loop.proofs.Awaiting.{events_left}
+use Rattle.event_play.proofs.Awaiting.{Awaits}
 use Rattle.event_play.proofs.rig.Rig.play_from.Given as goal
 
 abbrev pub invariant-events : goal.invariant-events
