@@ -1,8 +1,9 @@
 -- Events that are played while their output is written.
-use Rattle.std.proofs.Common.{◌≡◌, ◌≤◌, ◌⊎◌, inl, inr, ◌+◌, ℕ, List, [], ◌++◌, Option, Ok, option_to_list}
+use Rattle.std.proofs.Common.{◌≡◌, ◌≤◌, ◌⊎◌, inl, inr, ◌+◌, ℕ, List, [], ◌∷◌, ◌++◌, Option, None, Ok, option_to_list}
 use Rattle.std.proofs.Common.{refl, ap, subst, ◌∙◌, append-nil, sym, arith}
 use Rattle.dev_io.specs.Device.{appended, AppendsPart}
 use Rattle.gathered_out.specs.Pieces.{Piece, piece}
+use Rattle.dev_io.proofs.Appended.{appended-nil}
 use Rattle.gathered_out.specs.Puts.{BreaksPut, IsPut, holding}
 use Rattle.gp0_packets.specs.declared.note.Note.{Note}
 use Rattle.gpu_capture.specs.declared.event.Event.{Event}
@@ -10,7 +11,7 @@ use Rattle.gpu_core.specs.Kept.{Kept, kept_of}
 use Rattle.gpu_core.specs.Machine.{State}
 use Rattle.event_play.specs.Does.{Does, Stops, operation_lines}
 use Rattle.event_play.specs.Ends.{FeedsPart, PlaysEvent, ShowsPart, next_event, event_lines, event_lines_cost}
-use Rattle.event_play.specs.Feeding.{StopsFeeding, drawing, fed_lines, in_event}
+use Rattle.event_play.specs.Feeding.{Feeds, StopsFeeding, drawing, fed_lines, in_event}
 use Rattle.event_play.specs.Frames.{Frame, frames_after}
 use Rattle.event_play.specs.Lines.{IsBuffered, MayBuffer, WritesAfter, lines_for, lines_while, lines_after}
 use Rattle.event_play.specs.Lines.{lines_cost}
@@ -25,9 +26,12 @@ use Rattle.event_play.specs.declared.ending.Mode.{Mode}
 use Rattle.event_play.specs.declared.ending.Mode.TheVariants.{Vram, Shot, Report, Frames, Sums, Pixel}
 use Rattle.event_play.specs.declared.ending.Mode.TheVariants.{List as Listing, Play as Words}
 use Rattle.event_play.specs.declared.operation.Operation.{Operation}
+use Rattle.event_play.specs.declared.operation.Operation.TheVariants as operation
+use Rattle.event_play.specs.declared.operation.Words.TheVariants.{One}
 use Rattle.event_play.proofs.Events.{HasDone, has_done}
+use Rattle.event_play.proofs.Grows.{lines-none}
 use Rattle.event_play.proofs.Putting.{breaks_at, held_same, never_both, put_at, put_after, put_both}
-use Rattle.event_play.specs.PlayState.{play_state}
+use Rattle.event_play.specs.PlayState.{PlayState, play_state}
 use Rattle.event_play.specs.Step.{showing}
 
 -- the lines of words, and then the output after the event
@@ -233,3 +237,25 @@ feeds_part mode was rig t counted event asked before now lacking is stands numbe
       running = stands.state.running ∙ stops.running;
       played = stands.played ∙ sym played;
     }
+
+-- Nothing is written after an event that neither shows a word nor has a frame.
+pub nothing_after : (mode : Mode) (held : Option (List ℕ)) → held ≡ appended held (lines_after mode [] [])
+nothing_after mode held = sym (ap (appended held) (lines-none mode) ∙ appended-nil held)
+
+-- ---- a word written to GP0
+
+module _ (mode : Mode) (was : RigState) (counted word : ℕ) (before now : Outlets) (gpu : Kept) (s : State) where
+  abbrev pub fed_now : PlayState
+  fed_now = play_state now (record was { gpu = gpu })
+
+  pub word_done : Feeds (in_event counted mode) s (word ∷ []) before (drawing now gpu)
+      → (None ≡ (done (machine_of was s) counted (operation.Feed (One word) was.running)).shown)
+      × Does (in_event counted mode) (machine_of was s) (operation.Feed (One word) was.running) before fed_now
+  word_done feeds = (
+    refl,
+    record {
+      stands = record { gpu = feeds.stands; ram = refl; running = refl };
+      heard = feeds.heard;
+      cost = feeds.cost;
+    },
+  )

@@ -6,6 +6,7 @@ ghost use Rattle.event_play.specs.Streams.{buffering, outlets};
 
 use crate::ending::{EventInMode, InEvent, InMode};
 use crate::fault::EventFault;
+use crate::feed::feed_word;
 use crate::film::Played;
 use crate::finals::write_after;
 use crate::outlet::Lines;
@@ -35,10 +36,52 @@ impl Rig {
             (play_state (buffering buffered.new (outlets (K.held out.new) (K.faults out.new)
             (map T.heard taps.new.items) steps.new)) self.new) result }
     {
-        self.play_lines(event, &mut Lines { buffered, out }, taps, steps)
+        let lines = &mut Lines { buffered, out };
+        let mode = event.mode;
+        match event.value {
+            Event::Gp0 { word } => self.play_word(InMode { value: word, mode }, lines, taps, steps),
+            _ => self.play_lines(event, lines, taps, steps),
+        }
     }
 
-    // The same with the buffer and the sink in one value.
+    // The same for a word written to GP0, with the buffer and the sink in one value. It needs no validation, since it
+    // has no fault. It changes only the GPU and the number of events.
+    fn play_word<K: Sink, T: Listener, L: Ledger>(
+        &mut self,
+        word: InMode<u32>,
+        lines: &mut Lines<K>,
+        taps: &mut Vec<T>,
+        steps: &mut Steps<L>,
+    ) -> Result<(), Halt<EventFault>>
+        ensures plays { PlaysOrEnds word.mode (Event.Gp0 word.value)
+            (play_state (buffering lines.old.buffered.now
+            (outlets (K.held lines.old.out.now) (K.faults lines.old.out.now)
+            (map T.heard taps.old.items) steps.old)) self.old)
+            (play_state (buffering lines.new.buffered.now
+            (outlets (K.held lines.new.out.now) (K.faults lines.new.out.now)
+            (map T.heard taps.new.items) steps.new)) self.new) result }
+        ensures buffered { lines.new.buffered.ghost_name ≡ lines.old.buffered.ghost_name }
+        ensures out { lines.new.out.ghost_name ≡ lines.old.out.ghost_name }
+    {
+        let number = self.next_number();
+        let event_in_mode = EventInMode {
+            number,
+            mode: word.mode,
+        };
+        let given = InEvent {
+            event_in_mode,
+            value: word.value,
+        };
+        match feed_word(&mut self.gpu, given, lines, taps, steps) {
+            Ok(()) => {
+                self.played = number;
+                Ok(())
+            }
+            Err(event) => Err(Halt::Lacks { event }),
+        }
+    }
+
+    // The same for any event, with the buffer and the sink in one value.
     fn play_lines<K: Sink, T: Listener, L: Ledger>(
         &mut self,
         event: InMode<Event>,

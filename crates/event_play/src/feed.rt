@@ -44,9 +44,9 @@ pub(crate) fn feed<O: Outlet, T: Listener, L: Ledger>(
     Ok(())
 }
 
-// Feeds `word` to GP0. Adds the line of its note in mode `List`, and of its change of the cell in mode `Pixel`. On
-// failure, returns the number of the first event whose lines are incomplete; the word has then been fed.
-fn feed_word<O: Outlet, T: Listener, L: Ledger>(
+/// Feeds `word` to GP0. Adds the line of its note in mode `List`, and of its change of the cell in mode `Pixel`. On
+/// failure, returns the number of the first event whose lines are incomplete; the word has then been fed.
+pub(crate) fn feed_word<O: Outlet, T: Listener, L: Ledger>(
     gpu: &mut Gpu,
     word: InEvent<u32>,
     lines: &mut O,
