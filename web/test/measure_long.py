@@ -1,8 +1,8 @@
 #!/usr/bin/env python3
 """Long recordings in the viewer: python3 web/test/measure_long.py [RECORDING ..]
 
-Prints the times that each takes. Without a recording it makes one of a minute. Not part of the checks: what docs/VIEWER.md
-says holds on a machine that does nothing else.
+Prints the times that each takes. Without a recording it makes one of a minute. Not part of the checks. docs/VIEWER.md
+has times, and names the machine that they were measured on.
 """
 import os
 import random
