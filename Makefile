@@ -5,7 +5,7 @@
 # make install puts program, tools, manual pages, documents and, where it is built, the library below PREFIX (/usr/local);
 # make uninstall removes them. Both may have a DESTDIR before it; PYTHON is the Python that finds the package psxgpu.
 # make dist makes the packages, make deb those for Debian. make CPU=x86-64-v3 builds the program for newer processors
-# alone, and make lib-v3 the shared library for them, which the loader of glibc takes by itself where it is installed.
+# alone, and make lib-v3 the shared library for them. If that is installed, the loader of glibc takes it by itself.
 # make ARCH=aarch64 GOAL does the same for Linux on arm64, where GOAL is run, lib, install, uninstall, dist or deb.
 # make macos, make windows and make wasi build for these systems (systems/systems.mk); make dist-all makes all packages.
 .PHONY: run test bench lib lib-v3 plugin web viewer install install-library uninstall dist deb dist-all

@@ -2,7 +2,8 @@
 
     python3 packaging/build_plan.py CRATE [JOBS]
 
-prints by how many processors a crate is proved if no other is proved beside it: at most JOBS, and as memory holds.
+prints how many processors prove a crate if no other crate is proved at the same time: at most JOBS, and no more than
+memory allows.
 """
 import os
 import shutil
@@ -13,7 +14,7 @@ ROOT = os.path.dirname(os.path.dirname(os.path.abspath(__file__)))
 PARTS = ('src', 'specs', 'proofs')
 # What proving takes, as it was measured on one processor: seconds for a crate, and for each of its lines.
 SECONDS, SECONDS_A_LINE = 30, 0.038
-# The processors of a run are not always all at work: so much longer it takes than all on all of them.
+# A run takes this many times the time that it would take if all processors worked all the time.
 LOSS = 1.45
 # The memory of a check in bytes: for a crate, and for each of its lines.
 BYTES, BYTES_A_LINE = 800_000_000, 200_000
@@ -76,17 +77,17 @@ def free_memory() -> int:
 
 
 def memory_of(lines: int) -> float:
-    """Returns the memory of a check of so many lines by one processor."""
+    """Returns the bytes of memory that a check of `lines` lines takes with one processor."""
     return BYTES + BYTES_A_LINE * lines
 
 
 def taken(memory: float, jobs: int) -> float:
-    """Returns the memory that a check takes with so many processors, from what it takes with one."""
+    """Returns the memory that a check takes with `jobs` processors, if it takes `memory` with one."""
     return memory * (0.4 + 0.6 * jobs)
 
 
 def jobs_alone(crate: str, most: int) -> int:
-    """Returns by how many processors, at most `most`, a crate is proved if no other is proved beside it."""
+    """Returns how many processors, at most `most`, prove a crate if no other crate is proved at the same time."""
     room, memory = ROOM * free_memory(), memory_of(count_lines(crate))
     return max((it for it in range(1, min(most, MOST_JOBS) + 1) if taken(memory, it) <= room), default=1)
 
@@ -138,7 +139,7 @@ class Plan:
         return None
 
     def taken(self, name: str, jobs: int) -> float:
-        """Returns the memory that a crate takes with so many processors."""
+        """Returns the memory that the check of a crate takes with `jobs` processors."""
         return taken(self.memory[name], jobs)
 
     def end(self, name: str) -> None:
