@@ -133,6 +133,8 @@ install-library:
 uninstall:
 	rm -f $(BIN)/psxgpu_tool $(INCLUDE)/psxgpu.h $(INCLUDE)/psxgpu_capture.h $(LIB)/libpsxgpu.a $(LIB)/$(SONAME) $(LIB)/libpsxgpu.so \
 	  $(LIB)/$(NEWER:$(OUT)/%=%)/$(SONAME) $(LIB)/pkgconfig/psxgpu.pc $(MAN)/psxgpu_tool.1
+	[ ! -d $(LIB)/$(NEWER:$(OUT)/%=%) ] || \
+	  (cd $(LIB) && rmdir -p --ignore-fail-on-non-empty $(NEWER:$(OUT)/%=%))
 	packaging/install --remove "$(DESTDIR)" "$(PREFIX)" "$(PYTHON)"
 
 dist deb: $(PLAYER) lib $(if $(filter x86_64,$(ARCH)),lib-v3)

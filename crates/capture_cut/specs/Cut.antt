@@ -202,7 +202,7 @@ pub record EndsWriting (before now : ℕ) (ending : CutEnding) : Type 0 where
   pub read : MayReadFault ending → ⊥
   pub causes : Causes (MayWriteFault ending) before now
 
--- what a call of such code returns
+-- what a call of code that only writes returns; the count does not fall
 pub record WritesOrEnds {Value : Type 0} (before now : ℕ) (result : Result Value CutEnding) : Type 0 where
   pub kept : before ≤ now
   pub ends : IfErr result (EndsWriting before now)

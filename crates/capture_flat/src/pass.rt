@@ -18,7 +18,7 @@ use gathered_out::OutputBuffer;
 use gpu_capture::head_bytes;
 use ot_clear_dma::Ram;
 
-/// An operation, main memory, and the number of events played before.
+/// An operation that was performed, main memory after it, and the number of events played before it.
 #[derive(Clone, Copy)]
 pub(crate) struct Performed<'a> {
     pub(crate) operation: Operation,

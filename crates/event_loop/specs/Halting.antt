@@ -11,7 +11,7 @@ abbrev pub MayLack : {R : Type 0} → Halt R → Type 0
 MayLack (Lacks number) = Unit {0}
 MayLack (Refuses why) = ⊥
 
--- a call failed by a write
+-- a call failed because a write failed
 abbrev pub FailsWriting : {Value R : Type 0} → Result Value (Halt R) → Type 0
 FailsWriting (Ok v) = ⊥
 FailsWriting (Err halt) = MayLack halt

@@ -1,4 +1,5 @@
-//! One loop over the events of a source. A trait says what happens at each event and what output it has.
+//! One loop over the events of a source. A trait says what happens at each event and what output it has. Loops of other
+//! crates use only [`write_at_pause`], [`end_after`] and the types of endings.
 #![tactic(auto)]
 
 mod ended;

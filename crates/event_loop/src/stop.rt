@@ -15,7 +15,8 @@ use dev_io::Sink;
 use gathered_out::OutputBuffer;
 use gpu_capture::Stop;
 
-/// Ends at an event whose output is not complete. Flushes `buffered` first, unless a write has failed already.
+/// Ends at an event that is refused, or whose output is not complete. Flushes `buffered` first, unless a write has
+/// failed already.
 pub fn end_after<R: Copy, K: Sink>(
     halt: Halt<R>,
     buffered: &mut OutputBuffer,

@@ -99,7 +99,8 @@ pub record FaultsEvent (comes : NextEvent) (fault : EventFault) (before now : Pl
   pub stands : now.rig ≡ before.rig
   pub unchanged : now.out ≡ before.out
 
--- How an event ends playing: it is refused for its fault, or output is not complete, its own or buffered lines.
+-- How an event ends playing. Refuses: it has this fault. Lacks: the output of event `number` was not written
+-- completely; that is this event, or an earlier one whose lines were buffered.
 abbrev pub EndsEvent : Mode → NextEvent → (before now : PlayState) → Halt EventFault → Type 0
 EndsEvent mode comes before now (Refuses fault) = FaultsEvent comes fault before now
 EndsEvent mode comes before now (Lacks number) =

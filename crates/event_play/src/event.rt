@@ -21,7 +21,8 @@ use std::sync::ledger::Ledger;
 use vram_store::Steps;
 
 impl Rig {
-    /// Plays one event, and adds or writes its output. Refuses an event with a fault.
+    /// Plays one event, and adds or writes its output. Refuses an event with a fault. If a write fails, returns the
+    /// number of the first event whose output is incomplete.
     pub(crate) fn play_event<K: Sink, T: Listener, L: Ledger>(
         &mut self,
         event: InMode<Event>,
@@ -44,8 +45,8 @@ impl Rig {
         }
     }
 
-    // The same for a word written to GP0, with the buffer and the sink in one value. It needs no validation, since it
-    // has no fault. It changes only the GPU and the number of events.
+    // Plays a word written to GP0, as `play_event` does. `lines`: the buffer and the sink. The word needs no
+    // validation, since it has no fault. It changes only the GPU and the number of events.
     fn play_word<K: Sink, T: Listener, L: Ledger>(
         &mut self,
         word: InMode<u32>,
@@ -81,7 +82,7 @@ impl Rig {
         }
     }
 
-    // The same for any event, with the buffer and the sink in one value.
+    // Plays any event, as `play_event` does. `lines`: the buffer and the sink.
     fn play_lines<K: Sink, T: Listener, L: Ledger>(
         &mut self,
         event: InMode<Event>,

@@ -1,4 +1,4 @@
--- Spans that have no cell of their texture or CLUT.
+-- Spans without a hazard.
 use Rattle.std.proofs.Common.{◌≡◌, ◌<◌, ◌≤◌, ℕ, Option, None, Some, Bool, true, false, cond, eqb, ◌+◌, ◌-◌, ◌*◌, ◌/◌}
 use Rattle.std.proofs.Common.{◌%◌, ◌∙◌, inl, inr, map, refl, arith}
 use Rattle.std.specs.Prelude.{IfSome}

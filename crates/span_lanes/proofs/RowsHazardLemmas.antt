@@ -1,4 +1,4 @@
--- Rows of texels of a rectangle that read nothing that they write.
+-- Rows of texels of a rectangle without a hazard.
 use Rattle.std.proofs.Common.{◌≡◌, ◌≢◌, ◌<◌, ◌≤◌, ℕ, false, ◌+◌, ◌-◌, arith}
 use Rattle.texel_lanes.proofs.ContiguousLemmas.{open_window}
 use Rattle.span_lanes.specs.ClipRect.{IsInClip}
@@ -7,7 +7,7 @@ use Rattle.span_lanes.specs.TexelRows.{texel_row, texel_span}
 use Rattle.span_lanes.specs.declared.texel_rows.TexelRows.{TexelRows}
 use Rattle.span_lanes.proofs.TexelRunLemmas.{rising}
 
--- a row of the clip rectangle
+-- a whole row of the clip rectangle is in it
 pub whole_row : (rows : TexelRows) (y : ℕ) → rows.clip_rect.y ≤ y → y < rows.clip_rect.y + rows.clip_rect.h
     → IsInClip rows.clip_rect rows.clip_rect.x y rows.clip_rect.w
 whole_row rows y top bottom = record { left = omega arith; right = omega arith; top = top; bottom = bottom }

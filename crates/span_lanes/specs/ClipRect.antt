@@ -20,6 +20,6 @@ pub record IsInClip (b : ClipRect) (x y n : ℕ) : Type 0 where
   pub top : b.y ≤ y
   pub bottom : y < b.y + b.h
 
--- the spans in a clip rectangle read nothing that they write
+-- no span of a texture in a clip rectangle has a hazard
 pub record IsClipHazardFree (b : ClipRect) (t : Texture) : Type 0 where
   pub hazard_free : (s : Span) → texture_of s.paint ≡ Some t → IsSpan s → IsInClip b s.x s.y s.n → IsHazardFree s

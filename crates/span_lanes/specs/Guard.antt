@@ -23,6 +23,7 @@ paint_texel paint t x y i = texel_place t.page t.window (paint_u paint (x + i) y
 unfoldable pub paint_texels : Paint → Texture → ℕ → ℕ → ℕ → ℕ → List Cell
 paint_texels paint t x y first n = map (paint_texel paint t x y) (range_with_len first n)
 
+-- the cells of the first n entries of a CLUT (psx-spx, "GPU Rendering Attributes": clut attribute)
 abbrev pub clut_strip : ℕ → ℕ → Strip
 clut_strip clut n = record { x = clut % 64 * 16; y = clut_row clut; n = n }
 
@@ -74,7 +75,7 @@ page_width depth =
     else (if depth == 1 then 128
     else 256)
 
--- n columns of a row from x on are none of the `width` columns from `first` on, which wrap at 1024
+-- n columns of a row from x on are none of the `width` columns from `first` on, which wrap at 1024 (our own rule)
 abbrev pub LiesOutsideColumns : (first width x n : ℕ) → Type 0
 LiesOutsideColumns first width x n = (first + width ≤ x) ⊎ ((x + n ≤ first) × (first + width ≤ x + 1024))
 
@@ -91,6 +92,6 @@ LiesOutsideStrip strip x y n = (strip.y ≢ y) ⊎ LiesOutsideColumns strip.x st
 abbrev pub LiesOutsideClut : Texture → ℕ → ℕ → ℕ → Type 0
 LiesOutsideClut t x y n = IfSome (palette_of t) (λ strip. LiesOutsideStrip strip x y n)
 
--- no chunk of a span has a hazard: up to sixteen cells, from a multiple of sixteen on
+-- no chunk of a span has a hazard; a chunk is up to sixteen cells, the number of the first a multiple of sixteen
 pub record IsHazardFree (span : Span) : Type 0 where
   pub free : (first n : ℕ) → first % 16 ≡ 0 → n ≤ 16 → first + n ≤ span.n → HasHazard span first n → ⊥

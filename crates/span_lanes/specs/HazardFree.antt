@@ -12,6 +12,7 @@ pub record AreTexelsApart (span : Span) (t : Texture) : Type 0 where
       → (paint_texel span.paint t span.x span.y i).y ≡ span.y → ⊥
 
 -- contiguous texels in the columns `first` to `last`, read for n cells of the same row from column x on: they end to
--- the left of the cells, or begin a chunk or more to the left of them, or do not end to the left of the last cell
+-- the left of the cells, or begin sixteen columns or more to the left of them, or do not end to the left of the last
+-- cell
 abbrev pub AreColumnsApart : (first last x n : ℕ) → Type 0
 AreColumnsApart first last x n = ((last < x) ⊎ (first + 16 ≤ x)) ⊎ (x + n ≤ last + 1)

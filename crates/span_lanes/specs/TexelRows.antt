@@ -27,7 +27,7 @@ texel_span rows y v = state_span (texel_state rows v) rows.clip_rect.x y rows.cl
 abbrev pub texel_row : TexelRows → (y : ℕ) → ℕ
 texel_row rows y = row_u rows.v rows.falls (y - rows.clip_rect.y)
 
--- a row of the clip rectangle that can be drawn so in video memory
+-- row y of the clip rectangle can be drawn in video memory, and its texels are those of row v of the page
 pub record CanDrawTexels (rows : TexelRows) (y v : ℕ) (m : List ℕ) : Type 0 where
   pub can : CanDraw (texel_span rows y v) m
   pub in_block : IsInClip rows.clip_rect rows.clip_rect.x y rows.clip_rect.w

@@ -1,4 +1,4 @@
--- How the rows of a textured triangle are drawn in a clip rectangle that has no cell of the texture.
+-- How the rows of a textured triangle are drawn in a clip rectangle in which no row has a hazard.
 use Rattle.std.specs.Prelude.{ℕ, ◌≡◌, ◌≤◌, ◌+◌, ◌/◌, ◌&&◌, not, false, List, Some}
 use Rattle.edge_walk.specs.Attribute.{IsUnscaled}
 use Rattle.edge_walk.specs.Triangle.{Corners}
@@ -53,17 +53,17 @@ IsRowMethod tri t brush Contiguous = AreContiguous tri t
 IsRowMethod tri t brush (FlatTexelsByCoords color) = IsShadingOf tri (OneColor color)
 IsRowMethod tri t brush GouraudTexels = Unit {0}
 
--- in a clip rectangle that has no cell of the texture
+-- the same, in a clip rectangle in which no row has a hazard
 pub record SuitsMethod (tri : Corners) (t : Texture) (brush : Brush) (b : ClipRect) (method : RowMethod) : Type 0 where
   pub hazard_free : IsClipHazardFree b t
   pub is_way : IsRowMethod tri t brush method
 
--- a span can be drawn in video memory and reads nothing that it writes
+-- a span can be drawn in video memory and has no hazard
 pub record CanDrawRow (span : Span) (m : List ℕ) : Type 0 where
   pub can : CanDraw span m
   pub hazard_free : IsHazardFree span
 
--- no cell of a clip rectangle is one of a paint's texture page or CLUT
+-- a paint has a texture, and no span of it in a clip rectangle has a hazard
 pub record IsFreeIn (paint : Paint) (b : ClipRect) : Type 0 where
   pub t : Texture
   pub texture : texture_of paint ≡ Some t

@@ -5,8 +5,8 @@
 // not forced. In brackets: a workload of the benchmark.
 //
 // - `Solid`, in `draw_ready` and `draw_solid`: all cells become one halfword, and nothing is read. [triangle flat]
-// - `Untextured`, five in `draw_flat`: one colour that is blended, one loop for each mode [rectangle B+F], or that is
-//   tested or dithered.
+// - `Untextured`, five in `draw_flat`, for one colour: one for each blending mode [rectangle B+F], and one for pixels
+//   that are tested or dithered, or blended with a forced bit 15.
 // - `Untextured`, two in `draw_gouraud`: three channels that change along the row, opaque or not. [triangle gouraud]
 // - `CachedClut<TexelRun>`, in `CachedClutMethod::draw_row`: a cached CLUT and opaque pixels. The loop is inlined
 //   into the loop over the rows. [triangle 4-bit modulated]
@@ -19,8 +19,9 @@
 // - `Shaded` of the same three, each opaque or not, in `draw_shaded`: contiguous modulated texels. [rectangle 8-bit
 //   modulated]
 // - `CachedClut<&TexCoords>` and `RowSetup`, by the coordinates of each texel: in `draw_row_by_coords` [rectangle that
-//   is flipped], and in `draw_tri`, if spans in the triangle's clip rectangle may have a hazard. In such a rectangle
-//   contiguous rows without a hazard are drawn by the loops above. [triangle 15-bit raw, edge of its page]
+//   is flipped], and in `draw_tri`, if spans in the triangle's clip rectangle may have a hazard. In such a rectangle,
+//   `draw_contiguous_tri` draws contiguous rows without a hazard by the loops above. [triangle 15-bit raw, edge of
+//   its page]
 //
 // Rectangles that cache their CLUT for all rows have four more loops of `CachedClut<TexelRun>`, in
 // `CachedClutRows::draw_row`. [rectangle, sprite 4-bit]

@@ -8,7 +8,7 @@ ghost use Rattle.span_lanes.specs.ClipRect.{IsClipRect, IsInClip, IsClipHazardFr
 ghost use Rattle.overlap_guard.specs.Hazard.{HasTextureHazard, has_texture_hazard};
 ghost use Rattle.texel_lanes.specs.Texels.{AreCoordinates};
 
-use crate::{ClipRect, Paint, Span, Texture};
+use crate::{ClipRect, Span, Texture};
 use overlap_guard::lanes_hazard;
 use px_num::{Cell, Strip};
 use texel_lanes::{Coordinates, clut_row, texel_cells_of};
@@ -91,8 +91,8 @@ pub(crate) fn is_clip_outside_page(clip_rect: &ClipRect, texture: &Texture) -> b
     y + h <= page.y || page.y + 255 < y || lies_outside_columns(page.x, width_of(page.depth), x, w)
 }
 
-// Returns true only if the clip rectangle has no cell of the strip: this is above or below its rows, or in none of its
-// columns.
+// Returns true only if the clip rectangle has no cell of the strip. The strip is then above or below the rectangle's
+// rows, or in none of its columns.
 fn is_clip_off_strip(clip_rect: &ClipRect, strip: &Strip) -> bool
     requires clip_rect { IsClipRect 1024 clip_rect.now }
     requires strip { (strip.now.x ≤ 1024) × (strip.now.n ≤ 1024) }
@@ -121,17 +121,6 @@ pub(crate) fn is_clip_hazard_free(clip_rect: &ClipRect, texture: &Texture) -> bo
     ensures { IsTrue result → IsClipHazardFree clip_rect.now texture.now }
 {
     is_clip_outside_page(clip_rect, texture) && is_clip_off_clut(clip_rect, texture)
-}
-
-fn texture_of(paint: &Paint) -> Option<Texture>
-    ensures { result ≡ texture_of paint.now }
-{
-    match paint {
-        Paint::Flat { .. } => None,
-        Paint::Shaded { .. } => None,
-        Paint::TexturedTri { texture, .. } => Some(*texture),
-        Paint::TexturedRow { texture, .. } => Some(*texture),
-    }
 }
 
 // Returns the cells of the texture's CLUT, if it has one. Their columns wrap at 1024.

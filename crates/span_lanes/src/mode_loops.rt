@@ -1,4 +1,4 @@
-// A loop for each blending mode.
+// Spans whose pixels are only blended: a loop for each blending mode.
 ghost use Rattle.std.specs.Prelude.{◌≡◌, IsTrue, true, false};
 ghost use Rattle.span_lanes.specs.Draws.{DrawsSpan, at_stage};
 
@@ -16,7 +16,7 @@ fn is_only_blended(brush: &Brush) -> bool
     brush.mask == 0 && brush.semi && !brush.dither
 }
 
-// Returns the same span, whose pixels must be only blended, in this mode. The compiler then knows this, and makes a
+// Returns the same span. Its pixels must be only blended, in mode `mode`. The compiler then knows this, and makes a
 // separate loop.
 #[inline(always)]
 fn with_mode(span: &Span, mode: u8) -> Span
@@ -37,7 +37,7 @@ fn with_mode(span: &Span, mode: u8) -> Span
     }
 }
 
-// Draws a span of blended pixels chunk by chunk, with a separate loop for each mode. `chunks` must serve it.
+// Draws a span whose pixels are only blended, with a separate loop for each mode. `chunks` must serve it.
 #[inline(always)]
 fn draw_blended<C: ChunkDrawer, L: Ledger>(
     vram: &mut Vram,

@@ -29,7 +29,7 @@ pub trait TexelRowsMethod: Drop {
         requires { accepts rows.now }
         ensures { (m : List ℕ) → ready result rows.now m };
 
-    /// Draws row `y` of the clip rectangle with the texels of row `v` of the page.
+    /// Draws row `y` of the clip rectangle. Its texels must be those of row `v` of the page.
     fn draw_row<L: Ledger>(
         &mut self,
         vram: &mut Vram,
@@ -126,7 +126,7 @@ impl TexelRowsMethod for AnyRows {
     }
 }
 
-/// Contiguous texels of four bits, each row reading nothing that it writes: the CLUT is coloured once.
+/// Contiguous texels of four bits, in rows without a hazard: the CLUT is modulated once.
 #[derive(Drop)]
 pub struct CachedClutRows {
     // the CLUT, and what the colour makes of it; at first it was not read

@@ -1,4 +1,4 @@
-// What draws runs of cells, row by row, and the row drawer for any paint.
+// What draws runs of cells, row by row, and the setup of a paint for all its spans.
 ghost use Rattle.span_lanes.specs.PaintSetup.{IsPaintSetup};
 ghost use Rattle.span_lanes.specs.declared.span.Paint.TheVariants.{Flat, TexturedTri};
 
@@ -48,7 +48,7 @@ pub(crate) enum PaintSetup {
     Solid { h: u16 },
     // colours without a texture
     Untextured { shading: Shading },
-    // a textured triangle
+    // a textured triangle whose texels are read by their coordinates
     Tri { setup: TriangleSetup },
     // a textured triangle whose texels are contiguous in each row
     ContiguousTri { setup: TriangleSetup },

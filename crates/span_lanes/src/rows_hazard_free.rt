@@ -1,4 +1,4 @@
-// Rows of texels of a rectangle that are known to have no hazard.
+// Tests that find no hazard in all rows of a rectangle.
 ghost use Rattle.std.specs.Prelude.{ℕ, ◌≡◌, ◌≢◌, ◌≤◌, ◌<◌, ◌+◌, IsTrue, false};
 ghost use Rattle.texel_lanes.specs.Texture.{IsTexture};
 ghost use Rattle.span_lanes.specs.ClipRect.{IsClipRect};
@@ -20,7 +20,8 @@ fn rise_together(rows: &TexelRows) -> bool
     rows.texture.window.mask_y == 0 && !rows.falls && rows.v as u16 + rows.clip_rect.h <= 256
 }
 
-// Returns whether the first row's texels are in another row than its cells, without a window.
+// Returns whether the texels of the first row are in another row of video memory than its cells, if the window does not
+// change their row.
 fn begin_apart(rows: &TexelRows) -> bool
     requires texture { IsTexture rows.now.texture }
     ensures { IsTrue result → rows.now.texture.page.y + rows.now.v ≢ rows.now.clip_rect.y }
@@ -28,8 +29,8 @@ fn begin_apart(rows: &TexelRows) -> bool
     rows.texture.page.y + rows.v as u16 != rows.clip_rect.y
 }
 
-// Returns true only if no cell reads as its texel what an earlier cell of its chunk writes. The clip rectangle is
-// outside the page; or texels and cells move down together, and the first row is not read in the row that is written.
+// Returns true only if no cell reads as its texel what an earlier cell of its chunk writes. Then the clip rectangle is
+// outside the page. Or the rows of texels and of cells both increase by 1, and the first ones are not the same.
 fn are_texels_apart(rows: &TexelRows) -> bool
     requires clip_rect { IsClipRect 1024 rows.now.clip_rect }
     requires texture { IsTexture rows.now.texture }

@@ -1,4 +1,4 @@
-// Samplers: sources of the texels of a span. Texels that are read by their coordinates.
+// Samplers: sources of the texels of a span, and the reading of texels by their coordinates.
 ghost use Rattle.std.specs.Prelude.{◌≡◌, ◌≤◌, ◌+◌, ◌*◌};
 ghost use Rattle.texel_lanes.specs.Texture.{texel_steps};
 ghost use Rattle.span_lanes.specs.Draws.{CanSample, IsChunk};

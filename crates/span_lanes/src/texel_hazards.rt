@@ -1,4 +1,4 @@
-// Spans whose texels are in one known row, and that are known to have no hazard.
+// Tests that find no hazard in a span, if its texels are in one row of video memory.
 ghost use Rattle.std.specs.Prelude.{◌≡◌, ◌≢◌, ◌≤◌, ◌+◌, ◌-◌, ◌⊎◌, Some, IsTrue};
 ghost use Rattle.texture_page.specs.Page.{column, windowed};
 ghost use Rattle.texel_lanes.specs.Texture.{IsTexture};
@@ -15,9 +15,9 @@ use crate::{Span, Texture};
 use texel_lanes::column_of;
 use texture_page::texel_cell;
 
-// Returns whether no cell of a span reads what an earlier cell of its chunk writes, if its texels are contiguous and in
-// its own row. Their cells are to the left of what the chunk writes, or each is in the reading cell's own column or to
-// the right of it.
+// Returns true only if no cell of a span has its texel in the column of an earlier cell of its chunk. The texels must
+// be contiguous. Their cells are then to the left of all cells of their chunk, or none is to the left of the cell that
+// reads it.
 #[inline(always)]
 fn are_columns_apart(span: &Span, texture: &Texture, texel_run: TexelRun) -> bool
     requires span { IsSpan span.now }

@@ -1,4 +1,4 @@
-// Methods for the rows of a textured triangle: for contiguous texels, and for any by coordinates.
+// Methods for the rows of a textured triangle: for contiguous texels, and for texels that are read by coordinates.
 use crate::attribute_ramps::{AttributeRamps, CoordRamps, attribute_ramps_of, coord_ramps_of};
 use crate::cached_clut::draw_cached;
 use crate::contiguous_rows::draw_contiguous_row;

@@ -117,8 +117,8 @@ impl TexelRows {
         run_at_coords(&self.texture, self.u, v)
     }
 
-    /// Returns whether the texels of each row are contiguous, their CLUT has sixteen entries and can be modulated once,
-    /// and no row reads what it writes. [`CachedClutRows`](crate::CachedClutRows) draws such rows, and
+    /// Returns true only if the texels of each row are contiguous, their CLUT has sixteen entries and can be modulated
+    /// once, and no row has a hazard. [`CachedClutRows`](crate::CachedClutRows) draws such rows, and
     /// [`AnyRows`](crate::AnyRows) all.
     pub fn can_cache_clut(&self) -> bool
         requires clip_rect { IsClipRect 1024 self.now.clip_rect }

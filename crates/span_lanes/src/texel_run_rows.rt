@@ -1,4 +1,4 @@
-// Rows of contiguous texels without a hazard.
+// Rows of contiguous texels without a hazard: loops for each depth, raw or modulated.
 ghost use Rattle.std.specs.Prelude.{◌≡◌, true, false};
 ghost use Rattle.span_lanes.specs.Draws.{DrawsSpan, at_stage};
 ghost use Rattle.span_lanes.specs.CachedClut.{CanTakeTexels};

@@ -13,7 +13,7 @@ use edge_walk::Tri;
 use std::sync::ledger::Ledger;
 use vram_store::{Steps, Vram};
 
-/// How the texels of a triangle's rows are drawn, each row reading nothing that it writes.
+/// How the texels of a triangle's rows are drawn. No row may have a hazard.
 pub trait TexelMethod: Drop {
     ghost use Rattle.std.specs.Prelude.{ℕ, List};
     ghost use Rattle.edge_walk.specs.Triangle.{Corners};
@@ -98,7 +98,7 @@ impl<M: TexelMethod> RowDrawer for TriangleDrawer<M> {
     }
 }
 
-/// How the rows of a triangle are drawn that read nothing that they write.
+/// How the rows of a triangle are drawn, if none has a hazard.
 #[derive(Clone, Copy)]
 pub enum RowMethod {
     /// Contiguous texels of four bits under one colour: the CLUT is coloured once, and no pixel is blended or tested
@@ -125,7 +125,7 @@ fn never_wraps(texture: &Texture) -> bool
     }
 }
 
-// Returns whether the texels of each row are known to be contiguous.
+// Returns true only if the texels of each row are contiguous.
 #[inline(always)]
 pub(crate) fn is_contiguous(tri: &Tri, texture: &Texture) -> bool
     ensures { IsTrue result → IsTexture texture.now → AreContiguous tri.now texture.now }
