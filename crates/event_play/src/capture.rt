@@ -16,10 +16,10 @@ ghost use Rattle.event_play.specs.Streams.{streams};
 use crate::ending::{Ending, InMode, Mode, play_ending};
 use crate::listing::ModeWords;
 use crate::outlet::Lines;
-use crate::pause::write_before_words;
+use crate::pause::{write_before_event, write_before_words};
 use crate::rig::Rig;
 use dev_io::{Sink, Source};
-use event_loop::{end_after, write_at_pause};
+use event_loop::end_after;
 use gpu_capture::{EventReader, Stop, WordBlock};
 use gpu_taps::Listener;
 use std::sync::ledger::Ledger;
@@ -61,10 +61,7 @@ impl Rig {
         ensures out { lines.new.out.ghost_name ≡ lines.old.out.ghost_name }
     {
         let mode = capture.mode;
-        let mut words = ModeWords {
-            block: WordBlock::new(),
-            mode,
-        };
+        let mut words = ModeWords::new(mode);
         let mut next = capture.reader.next(capture.source);
         self.raise(capture.reader.version());
         let mut since = capture.reader.offset();
@@ -88,13 +85,7 @@ impl Rig {
                         let given = InMode { value: stop, mode };
                         return self.end_reading(given, lines, taps, steps);
                     }
-                    match write_at_pause(
-                        capture.reader,
-                        capture.source,
-                        since,
-                        lines.buffered,
-                        lines.out,
-                    ) {
+                    match write_before_event(capture.reader, capture.source, since, lines) {
                         Ok(offset) => since = offset,
                         Err(event) => return Ending::WriteFailed { event },
                     }
@@ -130,6 +121,10 @@ fn read_words<S: Source>(
         (reader_input reader.new.progress (S.left source.new)) block.new) }
     ensures faults { CountsFaults IsReadFault (S.faults source.old) (S.faults source.new) result }
 {
+    if reader.words_left() == 0 {
+        block.clear();
+        return Ok(());
+    }
     match mode {
         Mode::List => {
             let at_hand = source.ready() / 4;

@@ -1,6 +1,6 @@
 // Words fed to GP0 with the lines of their notes, one event per word. As in feed.rt, a word may change everything that
 // playing changes.
-ghost use Rattle.std.specs.Prelude.{◌≡◌, ◌≤◌, ◌<◌, length, take, map, option_to_list, IfSome};
+ghost use Rattle.std.specs.Prelude.{◌≡◌, ◌≤◌, ◌<◌, [], length, take, map, option_to_list, IfSome};
 ghost use Rattle.gathered_out.specs.Causes.{Causes, Fails};
 ghost use Rattle.gathered_out.specs.Puts.{holding};
 ghost use Rattle.gpu_core.specs.Feeds.{but_pixels};
@@ -26,6 +26,19 @@ use vram_store::Steps;
 pub(crate) struct ModeWords {
     pub(crate) block: WordBlock,
     pub(crate) mode: Mode,
+}
+
+impl ModeWords {
+    /// Returns no words.
+    pub(crate) fn new(mode: Mode) -> ModeWords
+        ensures none { result.block ≡ [] }
+        ensures mode { result.mode ≡ mode }
+    {
+        ModeWords {
+            block: WordBlock::new(),
+            mode,
+        }
+    }
 }
 
 impl Rig {
@@ -56,6 +69,9 @@ impl Rig {
         ensures buffered { lines.new.buffered.ghost_name ≡ lines.old.buffered.ghost_name }
         ensures out { lines.new.out.ghost_name ≡ lines.old.out.ghost_name }
     {
+        if words.block.as_slice().is_empty() {
+            return Ok(());
+        }
         let played = self.played;
         let fed = EventWords {
             played,

@@ -18,7 +18,7 @@ events-init g c = record {
       (record { state = e; played = refl }))
       c.next-next.result c.next-next.ensures.takes c.next-next.ensures.version
       (c.next-next.ensures.stop c.requires.stop);
-  mode = refl;
+  mode = c.new-words.ensures.mode;
   running = c.next-next.ensures.keeps.runs_on;
   known = c.next-next.ensures.version;
   read_cause = c.next-next.ensures.cause c.requires.stop;
@@ -99,8 +99,8 @@ returns-in-Err-read-clause-ends g c = λ s e.
     refl c.end_reading.result
     (c.end_reading.ensures.ends stopped.replay.state.gpu stopped.stands.state.gpu)
 
-pub returns-in-Err-write_at_pause-clause-ends : goal.returns-in-Err-write_at_pause-clause-ends
-returns-in-Err-write_at_pause-clause-ends g c = λ s e.
+pub returns-in-Err-write_before_event-clause-ends : goal.returns-in-Err-write_before_event-clause-ends
+returns-in-Err-write_before_event-clause-ends g c = λ s e.
     let awaits = awaits_is _ _ _ _ _ _ _ _ _ _ c.in-Ok.is (c.events.invariant.awaits s e) in
     let played = plays_on _ _ _ _ _ _ _ _ _ _ c.in-Ok.event awaits
     (c.in_default.ensures.plays.ok awaits.replay awaits.stands awaits.free) in
@@ -108,7 +108,7 @@ returns-in-Err-write_at_pause-clause-ends g c = λ s e.
     let paused = pauses_on _ _ _ _ _ _ _ c.in-Ok-write_before_words.offset _ _
     (g.K.Sink.held c.write_before_words.new.lines.out.now) played started c.in-Ok-write_before_words.ensures.ok in
     let read = c.read_words-read.ensures in
-    pause_ends _ _ _ _ _ _ _ _ (g.K.Sink.held c.write_at_pause.new.out) c.in-Err-write_at_pause.event
+    pause_ends _ _ _ _ _ _ _ _ (g.K.Sink.held c.write_before_event.new.lines.out.now) c.in-Err-write_before_event.event
     (words_went _ _ _ _ _ _ _ _ _ _ _ _ _ _ _ _ _
     paused.reached read.suit.unwatched c.play_words.ensures.ram c.play_words.ensures.running
     c.play_words.ensures.told (rw read.goes_on.version started)
@@ -117,7 +117,7 @@ returns-in-Err-write_at_pause-clause-ends g c = λ s e.
     (rw c.events.invariant.mode at c.in_default-play_words.ensures.puts)
     ((rw c.events.invariant.mode at c.play_words.ensures.free) paused.reached.free)
     c.in_default-read.ensures.takes)
-    (from_small s c.args.self.now.played c.args.capture.now.reader.now.progress) c.in-Err-write_at_pause.ensures.failed
+    (from_small s c.args.self.now.played c.args.capture.now.reader.now.progress) c.in-Err-write_before_event.ensures.failed
 
 pub returns-in-Err-read-clause-reads : goal.returns-in-Err-read-clause-reads
 returns-in-Err-read-clause-reads g c =
@@ -138,15 +138,15 @@ returns-in-Err-read-clause-writes g c =
       cause = λ may. omega (arith, was, played, paused, words, c.end_reading.ensures.causes.cause may);
     }
 
-pub returns-in-Err-write_at_pause-clause-writes : goal.returns-in-Err-write_at_pause-clause-writes
-returns-in-Err-write_at_pause-clause-writes g c =
+pub returns-in-Err-write_before_event-clause-writes : goal.returns-in-Err-write_before_event-clause-writes
+returns-in-Err-write_before_event-clause-writes g c =
     let was = c.events.invariant.write_faults in
     let played = c.in_default.ensures.plays.causes.kept in
     let paused = c.in-Ok-write_before_words.ensures.causes.kept in
     let words = c.play_words.ensures.causes.kept in
     record {
-      kept = omega (arith, was, played, paused, words, c.in-Err-write_at_pause.ensures.causes.kept);
-      cause = λ may. omega (arith, was, played, paused, words, c.in-Err-write_at_pause.ensures.causes.cause may);
+      kept = omega (arith, was, played, paused, words, c.in-Err-write_before_event.ensures.causes.kept);
+      cause = λ may. omega (arith, was, played, paused, words, c.in-Err-write_before_event.ensures.causes.cause may);
     }
 
 pub events-smaller : goal.events-smaller
@@ -174,8 +174,8 @@ events-preserved g c =
           (rw c.events.invariant.mode at c.in_default-play_words.ensures.puts)
           ((rw c.events.invariant.mode at c.play_words.ensures.free) paused.reached.free)
           c.in_default-read.ensures.takes in
-          let again = pauses_on _ _ _ _ _ _ _ c.in-Ok-write_at_pause.offset _ _ (g.K.Sink.held c.write_at_pause.new.out)
-          went (rw read.goes_on.version started) c.in-Ok-write_at_pause.ensures.ok in
+          let again = pauses_on _ _ _ _ _ _ _ c.in-Ok-write_before_event.offset _ _ (g.K.Sink.held c.write_before_event.new.lines.out.now)
+          went (rw read.goes_on.version started) c.in-Ok-write_before_event.ensures.ok in
           reads _ _ _ _ _ _ _ _ _ _ again.reached (rw read.goes_on.version started) again.near
           c.next-next-in-Ok.result c.next-next-in-Ok.ensures.takes
           (c.next-next-in-Ok.ensures.stop c.in_default-read.ensures.runs_on);
@@ -198,15 +198,17 @@ events-preserved g c =
         c.in_default.ensures.plays.causes.kept,
         c.in-Ok-write_before_words.ensures.causes.kept,
         c.play_words.ensures.causes.kept,
-        c.in-Ok-write_at_pause.ensures.causes.kept,
+        c.in-Ok-write_before_event.ensures.causes.kept,
       );
       reader = c.events.invariant.reader;
       source = c.events.invariant.source;
       buffered =
-          c.play_words.ensures.buffered
+          c.in-Ok-write_before_event.ensures.buffered
+          ∙ (c.play_words.ensures.buffered
           ∙ (c.in-Ok-write_before_words.ensures.buffered
-          ∙ (c.in_default.ensures.buffered ∙ c.events.invariant.buffered));
+          ∙ (c.in_default.ensures.buffered ∙ c.events.invariant.buffered)));
       out =
-          c.play_words.ensures.out
-          ∙ (c.in-Ok-write_before_words.ensures.out ∙ (c.in_default.ensures.out ∙ c.events.invariant.out));
+          c.in-Ok-write_before_event.ensures.out
+          ∙ (c.play_words.ensures.out
+          ∙ (c.in-Ok-write_before_words.ensures.out ∙ (c.in_default.ensures.out ∙ c.events.invariant.out)));
     }
