@@ -1,5 +1,5 @@
 -- Which events the buffered records belong to: late ones, so that few bytes are read before they are written.
-use Rattle.std.proofs.Common.{◌≡◌, ◌≤◌, ◌<◌, ◌⊎◌, inl, inr, ◌+◌, ◌++◌, ℕ, suc, List, [], ◌∷◌, Option, Bool, true, false}
+use Rattle.std.proofs.Common.{◌≡◌, ◌≤◌, ◌<◌, ◌⊎◌, inl, inr, ◌+◌, ◌++◌, ℕ, List, [], ◌∷◌, Option, Bool, true, false}
 use Rattle.std.proofs.Common.{cond, ltb, length, length-append, take, min, refl, ap, sym, ◌∙◌, subst, append_assoc}
 use Rattle.std.proofs.Common.{append-nil, arith}
 use Rattle.std.proofs.lemmas.Bool.{cases_lt, ltb-false}

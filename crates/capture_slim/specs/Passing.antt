@@ -1,6 +1,8 @@
 -- Writing a capture without its dead drawing while its events are read (our own rule).
 use Rattle.std.specs.Prelude.{◌≡◌, ◌≤◌, ◌<◌, ◌⊎◌, ℕ, List, [], ◌∷◌, ◌++◌, ◌+◌, Option, length, take}
+use Rattle.std.specs.Prelude.{Result, Ok, Err, IfErr}
 use Rattle.dev_io.specs.Device.{prepended, appended, AppendsPart, Rose}
+use Rattle.gathered_out.specs.Causes.{Causes}
 use Rattle.gpu_capture.specs.Capture.{capture, limit}
 use Rattle.gpu_capture.specs.Reader.{IsReadFault}
 use Rattle.gpu_capture.specs.Written.{spelled_end, written}
@@ -214,9 +216,17 @@ abbrev pub IsEnding : SlimEnding → Type 0
 IsEnding (Stopped number End) = ⊥
 IsEnding ending = Unit {0}
 
--- an ending of code that only writes: no read error, and a write error only if the sink failed. `before` and `now`
--- count the failures of the sink.
-pub record EndsWriting (before now : ℕ) (ending : SlimEnding) : Type 0 where
+-- an ending of code that only writes: it can occur, and the source is not its cause
+pub record IsWriteEnding (ending : SlimEnding) : Type 0 where
   pub known : IsEnding ending
   pub read : MayReadFault ending → ⊥
-  pub cause : MayWriteFault ending → Rose before now
+
+-- a call ended because a write failed
+abbrev pub FailsWriting : {Value : Type 0} → Result Value SlimEnding → Type 0
+FailsWriting (Ok v) = ⊥
+FailsWriting (Err ending) = MayWriteFault ending
+
+-- how a call that only writes ends; `before` and `now` count the failures of the sink
+pub record EndsWriting {Value : Type 0} (before now : ℕ) (result : Result Value SlimEnding) : Type 0 where
+  pub known : IfErr result IsWriteEnding
+  pub causes : Causes (FailsWriting result) before now

@@ -2,6 +2,7 @@
 ghost use Rattle.std.specs.Prelude.{◌≡◌, ◌≤◌, [], IfOk};
 ghost use Rattle.px_num.specs.Height.{short_height};
 ghost use Rattle.dev_io.specs.Device.{Rose};
+ghost use Rattle.gathered_out.specs.Causes.{Causes};
 ghost use Rattle.dead_drawing.specs.Laws.{height_for};
 ghost use Rattle.capture_slim.specs.Passing.{EndsSlim, IsEnding, MayReadFault, MayWriteFault, streams};
 ghost use Rattle.capture_slim.specs.Window.{first_window};
@@ -76,10 +77,8 @@ fn pass_on<S: Source, K: Sink>(window: &mut Waiting, source: &mut S, out: &mut K
     ensures ends { EndsSlim (streams (S.left source.old) (S.faults source.old) (K.held out.old))
         (streams (S.left source.new) (S.faults source.new) (K.held out.new)) result }
     ensures known { IsEnding result }
-    ensures read_cause { MayReadFault result → Rose (S.faults source.old) (S.faults source.new) }
-    ensures write_cause { MayWriteFault result → Rose (K.faults out.old) (K.faults out.new) }
-    ensures read_faults { S.faults source.old ≤ S.faults source.new }
-    ensures write_faults { K.faults out.old ≤ K.faults out.new }
+    ensures reads { Causes (MayReadFault result) (S.faults source.old) (S.faults source.new) }
+    ensures writes { Causes (MayWriteFault result) (K.faults out.old) (K.faults out.new) }
 {
     let mut reader = EventReader::new();
     let mut next = reader.next(source);

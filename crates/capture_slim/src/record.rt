@@ -2,13 +2,14 @@
 ghost use Rattle.std.specs.Prelude.{◌≡◌, ◌≤◌, ◌<◌, ◌+◌, ◌*◌, ◌^◌, ◌++◌, ◌∷◌, [], List, ℕ, Option, Some, length, IfErr};
 ghost use Rattle.std.specs.Prelude.{MatchResult, OnOk};
 ghost use Rattle.dev_io.specs.Device.{Writes, side};
+ghost use Rattle.gathered_out.specs.Causes.{Causes};
 ghost use Rattle.gpu_capture.specs.Capture.{IsVersion};
 ghost use Rattle.gpu_capture.specs.Written.{spelled, spelled_end};
 ghost use Rattle.gpu_capture.specs.declared.event.Event.{Event as SpecEvent};
 ghost use Rattle.event_play.specs.Ports.{IsAtPorts};
 ghost use Rattle.capture_slim.specs.File.{AreFrom, EndsTooLong, FailsNext, HasRoom, IsDraft, LacksFrom, due, head_at};
 ghost use Rattle.capture_slim.specs.File.{output_of};
-ghost use Rattle.capture_slim.specs.Passing.{EndsWriting};
+ghost use Rattle.capture_slim.specs.Passing.{EndsWriting, MayWriteFault, IsWriteEnding};
 
 use crate::ending::SlimEnding;
 use crate::file::{Draft, SlimFile};
@@ -94,8 +95,8 @@ pub(crate) fn write_last<K: Sink>(out: &mut K, file: SlimFile) -> Result<(), Fai
 fn end_too_long<K: Sink>(buffered: &mut OutputBuffer, number: u64, out: &mut K) -> SlimEnding
     ensures ends { EndsTooLong buffered.old (K.held out.old) (K.held out.new) number result }
     ensures late { (least : ℕ) → AreFrom least buffered.old → LacksFrom least result }
-    ensures known { EndsWriting (K.faults out.old) (K.faults out.new) result }
-    ensures faults { K.faults out.old ≤ K.faults out.new }
+    ensures known { IsWriteEnding result }
+    ensures causes { Causes (MayWriteFault result) (K.faults out.old) (K.faults out.new) }
 {
     match buffered.write(out) {
         Ok(()) => SlimEnding::TooLong { event: number },
@@ -126,8 +127,7 @@ pub(crate) fn add_record<K: Sink>(
         → MatchResult result (λ _. AreFrom least draft.new.buffered) (LacksFrom least) }
     ensures few { OnOk result (draft.new.file.size + 4 ≤ 2 ^ 30) }
     ensures version { draft.new.file.version ≡ draft.old.file.version }
-    ensures known { IfErr result (EndsWriting (K.faults out.old) (K.faults out.new)) }
-    ensures faults { K.faults out.old ≤ K.faults out.new }
+    ensures writing { EndsWriting (K.faults out.old) (K.faults out.new) result }
 {
     let bytes = due_bytes(draft.file, event);
     let after = draft.file.size + bytes.len() as u32;

@@ -37,8 +37,7 @@ fn add_next<K: Sink>(
         → MatchResult result (λ _. AreFrom least draft.new.buffered) (LacksFrom least) }
     ensures few { OnOk result (draft.new.file.size + 4 ≤ 2 ^ 30) }
     ensures version { draft.new.file.version ≡ draft.old.file.version }
-    ensures known { IfErr result (EndsWriting (K.faults out.old) (K.faults out.new)) }
-    ensures faults { K.faults out.old ≤ K.faults out.new }
+    ensures writing { EndsWriting (K.faults out.old) (K.faults out.new) result }
 {
     match window.pop() {
         None => Ok(()),
@@ -67,8 +66,7 @@ fn add_rest<K: Sink>(
         → MatchResult result (λ _. AreFrom least draft.new.buffered) (LacksFrom least) }
     ensures most { length (waiting window.old) ≤ 4096 }
     ensures version { draft.new.file.version ≡ draft.old.file.version }
-    ensures known { IfErr result (EndsWriting (K.faults out.old) (K.faults out.new)) }
-    ensures faults { K.faults out.old ≤ K.faults out.new }
+    ensures writing { EndsWriting (K.faults out.old) (K.faults out.new) result }
 {
     window.close();
     let left = window.len();
@@ -103,8 +101,7 @@ pub(crate) fn write_rest<K: Sink>(
     ensures late { (least : ℕ) → BuffersFrom least window.old draft.old count → IfErr result (LacksFrom least) }
     ensures most { length (waiting window.old) ≤ 4096 }
     ensures version { draft.new.file.version ≡ draft.old.file.version }
-    ensures known { IfErr result (EndsWriting (K.faults out.old) (K.faults out.new)) }
-    ensures faults { K.faults out.old ≤ K.faults out.new }
+    ensures writing { EndsWriting (K.faults out.old) (K.faults out.new) result }
 {
     match add_rest(window, draft, count, out) {
         Ok(()) => write_buffered(draft, out),
@@ -122,8 +119,7 @@ fn write_buffered<K: Sink>(draft: &mut Draft, out: &mut K) -> Result<(), SlimEnd
         → IfErr result (FailsRest (output_of draft.old base (K.held out.new)) outs last) }
     ensures late { (least : ℕ) → AreFrom least draft.old.buffered → IfErr result (LacksFrom least) }
     ensures version { draft.new.file.version ≡ draft.old.file.version }
-    ensures known { IfErr result (EndsWriting (K.faults out.old) (K.faults out.new)) }
-    ensures faults { K.faults out.old ≤ K.faults out.new }
+    ensures writing { EndsWriting (K.faults out.old) (K.faults out.new) result }
 {
     match draft.buffered.write(out) {
         Ok(()) => Ok(()),

@@ -1,7 +1,7 @@
 // Processes each event of a capture, and its end.
 ghost use Rattle.std.specs.Prelude.{◌≡◌, ◌≤◌, ◌<◌, ◌+◌, ◌++◌, ◌∷◌, [], ◌^◌, ◌↔◌, IsTrue, List, ℕ, Option, length};
 ghost use Rattle.std.specs.Prelude.{IfErr, MatchResult, OnOk};
-ghost use Rattle.dev_io.specs.Device.{Rose};
+ghost use Rattle.gathered_out.specs.Causes.{Causes};
 ghost use Rattle.gpu_capture.specs.Capture.{IsVersion};
 ghost use Rattle.gpu_capture.specs.Written.{HoldsWords};
 ghost use Rattle.gpu_capture.specs.declared.event.Event.{Event as SpecEvent};
@@ -10,7 +10,8 @@ ghost use Rattle.event_play.specs.Ports.{IsAtPorts};
 ghost use Rattle.capture_slim.specs.Came.{Came, ClosesFile, EndsEvent, EndsPushed, EndsRefused, EndsStop};
 ghost use Rattle.capture_slim.specs.Came.{BuffersFrom, HasCount, StopsAs, and_event};
 ghost use Rattle.capture_slim.specs.File.{AreFrom, HasRoom, LacksFrom};
-ghost use Rattle.capture_slim.specs.Passing.{EndsWriting, MayReadFault, MayWriteFault, IsEnding, Passed};
+ghost use Rattle.capture_slim.specs.Passing.{EndsWriting, MayReadFault, MayWriteFault, IsEnding, IsWriteEnding};
+ghost use Rattle.capture_slim.specs.Passing.{Passed};
 ghost use Rattle.capture_slim.specs.Window.{waiting};
 
 use crate::ending::SlimEnding;
@@ -66,8 +67,7 @@ fn push_event<K: Sink>(
     ensures late { (passed : Passed) (least : ℕ) → Came passed window.old draft.old count (K.held out.old)
         → BuffersFrom least window.old draft.old count
         → MatchResult result (λ _. AreFrom least draft.new.buffered) (LacksFrom least) }
-    ensures known { IfErr result (EndsWriting (K.faults out.old) (K.faults out.new)) }
-    ensures faults { K.faults out.old ≤ K.faults out.new }
+    ensures writing { EndsWriting (K.faults out.old) (K.faults out.new) result }
 {
     holds_words(event);
     match window.push(event) {
@@ -86,8 +86,8 @@ fn refuse<K: Sink>(window: &mut Waiting, draft: &mut Draft, count: u64, out: &mu
     ensures ends { (passed : Passed) → Came passed window.old draft.old count (K.held out.old)
         → EndsRefused passed (K.held out.new) result }
     ensures late { (least : ℕ) → BuffersFrom least window.old draft.old count → LacksFrom least result }
-    ensures known { EndsWriting (K.faults out.old) (K.faults out.new) result }
-    ensures faults { K.faults out.old ≤ K.faults out.new }
+    ensures known { IsWriteEnding result }
+    ensures causes { Causes (MayWriteFault result) (K.faults out.old) (K.faults out.new) }
 {
     match write_rest(window, draft, count, out) {
         Ok(()) => SlimEnding::NotFlat { event: count + 1 },
@@ -113,8 +113,7 @@ pub(crate) fn take_event<K: Sink>(
     ensures late { (passed : Passed) (least : ℕ) → Came passed window.old draft.old count (K.held out.old)
         → BuffersFrom least window.old draft.old count
         → MatchResult result (λ _. AreFrom least draft.new.buffered) (LacksFrom least) }
-    ensures known { IfErr result (EndsWriting (K.faults out.old) (K.faults out.new)) }
-    ensures faults { K.faults out.old ≤ K.faults out.new }
+    ensures writing { EndsWriting (K.faults out.old) (K.faults out.new) result }
 {
     if is_at_ports(&event) {
         push_event(window, event, draft, count, out)
@@ -138,8 +137,7 @@ pub(crate) fn finish<K: Sink>(
     ensures late { (least : ℕ) → BuffersFrom least window.old draft.old count → LacksFrom least result }
     ensures known { IsEnding result }
     ensures read { MayReadFault result → IsReadFault stop }
-    ensures cause { MayWriteFault result → Rose (K.faults out.old) (K.faults out.new) }
-    ensures faults { K.faults out.old ≤ K.faults out.new }
+    ensures causes { Causes (MayWriteFault result) (K.faults out.old) (K.faults out.new) }
 {
     match write_rest(window, draft, count, out) {
         Ok(()) => close_file(draft.file, stop, count + 1, out),
@@ -154,8 +152,7 @@ fn close_file<K: Sink>(file: SlimFile, stop: Stop, number: u64, out: &mut K) -> 
     ensures writes { ClosesFile file (K.held out.old) (K.held out.new) result }
     ensures known { IsEnding result }
     ensures read { MayReadFault result → IsReadFault stop }
-    ensures cause { MayWriteFault result → Rose (K.faults out.old) (K.faults out.new) }
-    ensures faults { K.faults out.old ≤ K.faults out.new }
+    ensures causes { Causes (MayWriteFault result) (K.faults out.old) (K.faults out.new) }
 {
     match stop {
         Stop::End => match write_last(out, file) {

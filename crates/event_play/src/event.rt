@@ -14,7 +14,6 @@ use crate::rig::Rig;
 use crate::validate::validate;
 use dev_io::Sink;
 use event_loop::Halt;
-use gathered_out::OutputBuffer;
 use gpu_capture::Event;
 use gpu_taps::Listener;
 use std::sync::ledger::Ledger;
@@ -26,18 +25,20 @@ impl Rig {
     pub(crate) fn play_event<K: Sink, T: Listener, L: Ledger>(
         &mut self,
         event: InMode<Event>,
-        buffered: &mut OutputBuffer,
-        out: &mut K,
+        lines: &mut Lines<K>,
         taps: &mut Vec<T>,
         steps: &mut Steps<L>,
     ) -> Result<(), Halt<EventFault>>
-        ensures { PlaysOrEnds event.mode event.value
-            (play_state (buffering buffered.old (outlets (K.held out.old) (K.faults out.old)
+        ensures plays { PlaysOrEnds event.mode event.value
+            (play_state (buffering lines.old.buffered.now
+            (outlets (K.held lines.old.out.now) (K.faults lines.old.out.now)
             (map T.heard taps.old.items) steps.old)) self.old)
-            (play_state (buffering buffered.new (outlets (K.held out.new) (K.faults out.new)
+            (play_state (buffering lines.new.buffered.now
+            (outlets (K.held lines.new.out.now) (K.faults lines.new.out.now)
             (map T.heard taps.new.items) steps.new)) self.new) result }
+        ensures buffered { lines.new.buffered.ghost_name ≡ lines.old.buffered.ghost_name }
+        ensures out { lines.new.out.ghost_name ≡ lines.old.out.ghost_name }
     {
-        let lines = &mut Lines { buffered, out };
         let mode = event.mode;
         match event.value {
             Event::Gp0 { word } => self.play_word(InMode { value: word, mode }, lines, taps, steps),
@@ -45,8 +46,8 @@ impl Rig {
         }
     }
 
-    // Plays a word written to GP0, as `play_event` does. `lines`: the buffer and the sink. The word needs no
-    // validation, since it has no fault. It changes only the GPU and the number of events.
+    // Plays a word written to GP0, as `play_event` does. The word needs no validation, since it has no fault. It changes
+    // only the GPU and the number of events.
     fn play_word<K: Sink, T: Listener, L: Ledger>(
         &mut self,
         word: InMode<u32>,
@@ -82,7 +83,7 @@ impl Rig {
         }
     }
 
-    // Plays any event, as `play_event` does. `lines`: the buffer and the sink.
+    // Plays any event, as `play_event` does.
     fn play_lines<K: Sink, T: Listener, L: Ledger>(
         &mut self,
         event: InMode<Event>,

@@ -2,6 +2,7 @@
 #![tactic(auto)]
 
 mod block;
+mod capture;
 mod direct;
 mod ending;
 mod event;

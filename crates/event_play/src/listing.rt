@@ -1,6 +1,6 @@
 // Words fed to GP0 with the lines of their notes, one event per word. As in feed.rt, a word may change everything that
 // playing changes.
-ghost use Rattle.std.specs.Prelude.{◌≡◌, ◌≤◌, ◌<◌, length, take, map, option_to_list, IfSome};
+ghost use Rattle.std.specs.Prelude.{◌≡◌, ◌≤◌, ◌<◌, [], length, take, map, option_to_list, IfSome};
 ghost use Rattle.gathered_out.specs.Causes.{Causes, Fails};
 ghost use Rattle.gathered_out.specs.Puts.{holding};
 ghost use Rattle.gpu_core.specs.Feeds.{but_pixels};
@@ -15,7 +15,6 @@ use crate::feed::{EventWords, feed_events};
 use crate::outlet::{Lines, put_listed};
 use crate::rig::Rig;
 use dev_io::Sink;
-use gathered_out::OutputBuffer;
 use gpu_capture::WordBlock;
 use gpu_core::{Gpu, NotedWords};
 use gpu_taps::Listener;
@@ -29,6 +28,19 @@ pub(crate) struct ModeWords {
     pub(crate) mode: Mode,
 }
 
+impl ModeWords {
+    /// Returns no words.
+    pub(crate) fn new(mode: Mode) -> ModeWords
+        ensures none { result.block ≡ [] }
+        ensures mode { result.mode ≡ mode }
+    {
+        ModeWords {
+            block: WordBlock::new(),
+            mode,
+        }
+    }
+}
+
 impl Rig {
     /// Plays words written to GP0, one event per word. In mode `List`, adds the lines of their notes, except for pixels
     /// of a load. On failure, returns the number of the first event whose lines are incomplete; all words are played
@@ -36,8 +48,7 @@ impl Rig {
     pub(crate) fn play_words<K: Sink, T: Listener, L: Ledger>(
         &mut self,
         words: &ModeWords,
-        buffered: &mut OutputBuffer,
-        out: &mut K,
+        lines: &mut Lines<K>,
         taps: &mut Vec<T>,
         steps: &mut Steps<L>,
     ) -> Result<(), u64>
@@ -48,12 +59,19 @@ impl Rig {
         ensures puts { (t : Replay) (first : Outlets)
             → IsTold t first (without_sink (map T.heard taps.old.items) steps.old) self.old.gpu self.old.played
             → PutsPieces (pieces_for words.now.mode (word_notes t words.now.block))
-            (holding (K.held out.old) buffered.old) (holding (K.held out.new) buffered.new) result }
-        ensures free { MayBuffer words.now.mode buffered.old → MayBuffer words.now.mode buffered.new }
+            (holding (K.held lines.old.out.now) lines.old.buffered.now)
+            (holding (K.held lines.new.out.now) lines.new.buffered.now) result }
+        ensures free { MayBuffer words.now.mode lines.old.buffered.now
+            → MayBuffer words.now.mode lines.new.buffered.now }
         ensures ram { self.new.ram ≡ self.old.ram }
         ensures running { self.new.running ≡ self.old.running }
-        ensures causes { Causes (Fails result) (K.faults out.old) (K.faults out.new) }
+        ensures causes { Causes (Fails result) (K.faults lines.old.out.now) (K.faults lines.new.out.now) }
+        ensures buffered { lines.new.buffered.ghost_name ≡ lines.old.buffered.ghost_name }
+        ensures out { lines.new.out.ghost_name ≡ lines.old.out.ghost_name }
     {
+        if words.block.as_slice().is_empty() {
+            return Ok(());
+        }
         let played = self.played;
         let fed = EventWords {
             played,
@@ -61,15 +79,7 @@ impl Rig {
         };
         self.played = played.saturating_add(fed.words.len() as u64);
         match words.mode {
-            Mode::List => {
-                list_events(
-                    &mut self.gpu,
-                    fed,
-                    &mut Lines { buffered, out },
-                    taps,
-                    steps,
-                )
-            }
+            Mode::List => list_events(&mut self.gpu, fed, lines, taps, steps),
             _ => {
                 feed_events(&mut self.gpu, fed, taps, steps);
                 Ok(())

@@ -1,26 +1,21 @@
 // Plays a capture to its end.
-ghost use Rattle.std.specs.Prelude.{◌≡◌, ◌≤◌, ◌+◌, None, map, OnOk, IfErr};
+ghost use Rattle.std.specs.Prelude.{◌≡◌, ◌≤◌, None, map};
 ghost use Rattle.dev_io.specs.Device.{Rose};
-ghost use Rattle.gpu_capture.specs.Reader.{CountsFaults, IsReadFault, reader_input};
-ghost use Rattle.gpu_capture.specs.Words.{TakesWords, StopsAfter, GoesOn};
 ghost use Rattle.event_play.specs.Causes.{MayReadFault, MayWriteFault, IsEnding};
 ghost use Rattle.event_play.specs.PlayInput.{at_end};
-ghost use Rattle.event_play.specs.Lines.{IsBuffered};
 ghost use Rattle.event_play.specs.Playing.{EndsPlay};
-ghost use Rattle.event_play.specs.Reading.{SuitMode};
 ghost use Rattle.event_play.specs.Replay.{Replay, script_of, script_after, from_state, raised};
 ghost use Rattle.event_play.specs.RigState.{Stands, StandsFor};
 ghost use Rattle.event_play.specs.Step.{Machine};
 ghost use Rattle.event_play.specs.Streams.{streams};
 
-use crate::ending::{Ending, InMode, Mode, play_ending};
-use crate::listing::ModeWords;
-use crate::pause::write_before_words;
+use crate::capture::ModeCapture;
+use crate::ending::{Ending, Mode};
+use crate::outlet::Lines;
 use crate::rig::Rig;
 use dev_io::{Sink, Source};
-use event_loop::{end_after, write_at_pause};
 use gathered_out::OutputBuffer;
-use gpu_capture::{EventReader, Stop, WordBlock};
+use gpu_capture::EventReader;
 use gpu_taps::Listener;
 use std::sync::ledger::Ledger;
 use vram_store::Steps;
@@ -87,45 +82,17 @@ impl Rig {
         ensures read_faults { S.faults source.old ≤ S.faults source.new }
         ensures write_faults { K.faults out.old ≤ K.faults out.new }
     {
-        let mut words = ModeWords {
-            block: WordBlock::new(),
+        let mut buffered = OutputBuffer::new();
+        let lines = &mut Lines {
+            buffered: &mut buffered,
+            out,
+        };
+        let capture = &mut ModeCapture {
+            reader,
+            source,
             mode,
         };
-        let mut lines = OutputBuffer::new();
-        let mut next = reader.next(source);
-        self.raise(reader.version());
-        let mut since = reader.offset();
-        'events: loop {
-            match next {
-                Ok(event) => {
-                    let given = InMode { value: event, mode };
-                    if let Err(halt) = self.play_event(given, &mut lines, out, taps, steps) {
-                        return play_ending(end_after(halt, &mut lines, out), self.next_number());
-                    }
-                    match write_before_words(reader, since, &mut lines, out) {
-                        Ok(offset) => since = offset,
-                        Err(event) => return Ending::WriteFailed { event },
-                    }
-                    let read = read_words(reader, source, mode, &mut words.block);
-                    if let Err(event) = self.play_words(&words, &mut lines, out, taps, steps) {
-                        return Ending::WriteFailed { event };
-                    }
-                    if let Err(stop) = read {
-                        let given = InMode { value: stop, mode };
-                        return self.end_reading(given, &mut lines, out, taps, steps);
-                    }
-                    match write_at_pause(reader, source, since, &mut lines, out) {
-                        Ok(offset) => since = offset,
-                        Err(event) => return Ending::WriteFailed { event },
-                    }
-                    next = reader.next(source);
-                }
-                Err(stop) => {
-                    let given = InMode { value: stop, mode };
-                    return self.end_reading(given, &mut lines, out, taps, steps);
-                }
-            }
-        }
+        self.play_rest(capture, lines, taps, steps)
     }
 
     /// Makes the machine tall (1024 rows of video memory) if captures of `version` are played so.
@@ -135,39 +102,5 @@ impl Rig {
         if version == TALL_VERSION {
             self.set_tall();
         }
-    }
-}
-
-// Reads the next words of an open Gp0 record as one block: in mode `List` those at hand, in mode `Pixel` none,
-// otherwise as many as fit. If the reader stops after them, returns the stop; the words read are in `block`
-// nevertheless.
-fn read_words<S: Source>(
-    reader: &mut EventReader,
-    source: &mut S,
-    mode: Mode,
-    block: &mut WordBlock,
-) -> Result<(), Stop>
-    requires { reader.old.stop ≡ None }
-    ensures goes_on { GoesOn reader.old.progress reader.new.progress }
-    ensures suit { SuitMode mode reader.old.progress reader.new.progress block.new }
-    ensures waits { IsBuffered mode
-        → reader.new.progress.offset ≤ reader.old.progress.offset + S.at_hand source.old }
-    ensures takes { OnOk result (TakesWords (reader_input reader.old.progress (S.left source.old))
-        (reader_input reader.new.progress (S.left source.new)) block.new) }
-    ensures runs_on { OnOk result (reader.new.stop ≡ None) }
-    ensures stop { IfErr result (StopsAfter (reader_input reader.old.progress (S.left source.old))
-        (reader_input reader.new.progress (S.left source.new)) block.new) }
-    ensures faults { CountsFaults IsReadFault (S.faults source.old) (S.faults source.new) result }
-{
-    match mode {
-        Mode::List => {
-            let at_hand = source.ready() / 4;
-            reader.words(source, at_hand, block)
-        }
-        Mode::Pixel { .. } => {
-            block.clear();
-            Ok(())
-        }
-        _ => reader.words(source, usize::MAX, block),
     }
 }

@@ -11,9 +11,9 @@ ghost use Rattle.event_play.specs.Streams.{buffering, outlets};
 
 use crate::ending::{Ending, EventInMode, InMode, Mode};
 use crate::finals::{lacks_picture, write_finals};
+use crate::outlet::Lines;
 use crate::rig::Rig;
 use dev_io::Sink;
-use gathered_out::OutputBuffer;
 use gpu_capture::Stop;
 use gpu_taps::Listener;
 use std::sync::ledger::Ledger;
@@ -24,22 +24,26 @@ impl Rig {
     pub(crate) fn end_reading<K: Sink, T: Listener, L: Ledger>(
         &self,
         stop: InMode<Stop>,
-        lines: &mut OutputBuffer,
-        out: &mut K,
+        lines: &mut Lines<K>,
         taps: &Vec<T>,
         steps: &mut Steps<L>,
     ) -> Ending
         ensures ends { (s : State) → kept_of s ≡ self.now.gpu →
             EndsReading (final_output stop.mode s (next_number self.now.played)) stop.value
-            (buffering lines.old (outlets (K.held out.old) (K.faults out.old) (map T.heard taps.now.items) steps.old))
-            (outlets (K.held out.new) (K.faults out.new) (map T.heard taps.now.items) steps.new) result }
+            (buffering lines.old.buffered.now (outlets (K.held lines.old.out.now) (K.faults lines.old.out.now)
+            (map T.heard taps.now.items) steps.old))
+            (outlets (K.held lines.new.out.now) (K.faults lines.new.out.now)
+            (map T.heard taps.now.items) steps.new) result }
         ensures known { IsEnding result }
         ensures stopped { MayReadFault result → IsReadFault stop.value }
-        ensures causes { Causes (MayWriteFault result) (K.faults out.old) (K.faults out.new) }
+        ensures causes { Causes (MayWriteFault result)
+            (K.faults lines.old.out.now) (K.faults lines.new.out.now) }
+        ensures buffered { lines.new.buffered.ghost_name ≡ lines.old.buffered.ghost_name }
+        ensures out { lines.new.out.ghost_name ≡ lines.old.out.ghost_name }
     {
-        match lines.write(out) {
+        match lines.buffered.write(lines.out) {
             Ok(()) => match stop.value {
-                Stop::End => self.finish(out, stop.mode, taps, steps),
+                Stop::End => self.finish(lines.out, stop.mode, taps, steps),
                 _ => Ending::Stopped {
                     event: self.next_number(),
                     stop: stop.value,

@@ -81,7 +81,7 @@ events-preserved g c =
       write_faults = omega (
         arith,
         c.events.invariant.write_faults,
-        c.take_event.ensures.faults,
+        c.take_event.ensures.writing.causes.kept,
         c.in-Ok-write_at_pause.ensures.causes.kept,
       );
     }
@@ -92,3 +92,28 @@ returns-in-Err-clause-ends g c =
     stop_end _ _ _ _ _ _ _ _ c.in-Err.stop at (omega (arith, c.version.ensures.known, c.max-version.ensures))
     (rw c.in-Err.is at c.events.invariant.read_cause) _ c.finish.result (c.finish.ensures.ends _ at.came)
     (c.finish.ensures.late at.least at.from)
+
+pub returns-in-Err-take_event-clause-writes : goal.returns-in-Err-take_event-clause-writes
+returns-in-Err-take_event-clause-writes g c =
+    let was = c.events.invariant.write_faults in
+    let took = c.in-Err-take_event.ensures.writing.causes in
+    record { kept = omega (arith, was, took.kept); cause = λ may. omega (arith, was, took.cause may) }
+
+pub returns-in-Err-write_at_pause-clause-writes : goal.returns-in-Err-write_at_pause-clause-writes
+returns-in-Err-write_at_pause-clause-writes g c =
+    let was = c.events.invariant.write_faults in
+    let took = c.take_event.ensures.writing.causes.kept in
+    let paused = c.in-Err-write_at_pause.ensures.causes in
+    record { kept = omega (arith, was, took, paused.kept); cause = λ may. omega (arith, was, took, paused.cause may) }
+
+pub returns-in-Err-clause-reads : goal.returns-in-Err-clause-reads
+returns-in-Err-clause-reads g c = record {
+  kept = c.events.invariant.read_faults;
+  cause = λ may. (rw c.in-Err.is at c.events.invariant.read_cause) (c.finish.ensures.read may);
+}
+
+pub returns-in-Err-clause-writes : goal.returns-in-Err-clause-writes
+returns-in-Err-clause-writes g c =
+    let was = c.events.invariant.write_faults in
+    let ended = c.finish.ensures.causes in
+    record { kept = omega (arith, was, ended.kept); cause = λ may. omega (arith, was, ended.cause may) }

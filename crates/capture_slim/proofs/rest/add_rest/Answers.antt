@@ -45,7 +45,7 @@ slots-preserved g c =
           (omega (arith, from.later, closed_long, c.len-left.ensures.value));
       few = c.in-Ok.ensures.few;
       version = c.add_next.ensures.version ∙ at.version;
-      faults = omega (arith, at.faults, c.add_next.ensures.faults);
+      faults = omega (arith, at.faults, c.add_next.ensures.writing.causes.kept);
     }
 
 pub returns-clause-ok : goal.returns-clause-ok

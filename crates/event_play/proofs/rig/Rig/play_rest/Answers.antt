@@ -1,4 +1,4 @@
-use Rattle.std.proofs.Common.{refl, map, arith}
+use Rattle.std.proofs.Common.{◌∙◌, refl, map, arith}
 use Rattle.std.proofs.lemmas.Result.{IfErr-weaker}
 use Rattle.event_play.specs.Replay.{from_state}
 use Rattle.event_play.specs.Streams.{buffering, outlets}
@@ -8,22 +8,26 @@ use Rattle.event_play.proofs.Reaching.{event_ends, plays_on}
 use Rattle.event_play.proofs.Stopping.{pause_ends, reading_ends}
 use Rattle.event_loop.proofs.Awaiting.{left_less}
 use Rattle.event_play.proofs.Together.{words_fail, words_stop, words_went}
-use Rattle.event_play.proofs.rig.Rig.play_from.Goals as goal
+use Rattle.event_play.proofs.rig.Rig.play_rest.Goals as goal
 
 pub events-init : goal.events-init
 events-init g c = record {
   awaits = λ s e.
-      starts _ s c.args.self.now.played _ _ _ _ _ _ _ _ _ _ c.new-lines.ensures c.offset-since.ensures
+      starts _ s c.args.self.now.played _ _ _ _ _ _ _ _ _ _ c.requires.empty c.offset-since.ensures
       (rw c.version.ensures.value at c.raise.ensures (from_state s c.args.self.now.played)
       (record { state = e; played = refl }))
       c.next-next.result c.next-next.ensures.takes c.next-next.ensures.version
-      (c.next-next.ensures.stop c.requires);
-  mode = refl;
+      (c.next-next.ensures.stop c.requires.stop);
+  mode = c.new-words.ensures.mode;
   running = c.next-next.ensures.keeps.runs_on;
   known = c.next-next.ensures.version;
-  read_cause = c.next-next.ensures.cause c.requires;
+  read_cause = c.next-next.ensures.cause c.requires.stop;
   read_faults = c.next-next.ensures.faults;
   write_faults = omega arith;
+  reader = refl;
+  source = refl;
+  buffered = refl;
+  out = refl;
 }
 
 pub returns-in-Err-play_event-clause-ends : goal.returns-in-Err-play_event-clause-ends
@@ -31,17 +35,17 @@ returns-in-Err-play_event-clause-ends g c = λ s e.
     let awaits = awaits_is _ _ _ _ _ _ _ _ _ _ c.in-Ok.is (c.events.invariant.awaits s e) in
     rw (c.play_ending.ensures, c.next_number.ensures)
     (event_ends _ _ _ _ _ _ _ _ _ _ c.in-Ok.event awaits
-    (from_small s c.args.self.now.played c.args.reader.now.progress)
-    c.in-Err-play_event.halt (g.K.Sink.held c.end_after.new.out) c.end_after.result
-    (c.in-Err-play_event.ensures.ends awaits.replay awaits.stands awaits.free) c.end_after.ensures.ends)
+    (from_small s c.args.self.now.played c.args.capture.now.reader.now.progress)
+    c.in-Err-play_event.halt (g.K.Sink.held c.end_after-ended.new.out) c.end_after-ended.result
+    (c.in-Err-play_event.ensures.plays.ends awaits.replay awaits.stands awaits.free) c.end_after-ended.ensures.ends)
 
 pub returns-in-Err-clause-ends : goal.returns-in-Err-clause-ends
 returns-in-Err-clause-ends g c = λ s e.
     let awaits = awaits_is _ _ _ _ _ _ _ _ _ _ c.in-Err.is (c.events.invariant.awaits s e) in
-    let mid = buffering c.events.lines (outlets (g.K.Sink.held c.events.out) (g.K.Sink.faults c.events.out)
+    let mid = buffering c.events.lines.buffered.now (outlets (g.K.Sink.held c.events.lines.out.now) (g.K.Sink.faults c.events.lines.out.now)
     (map g.T.Listener.heard c.events.taps.items) c.events.steps) in
     reading_ends _ _ _ _ mid _ _ _ _ c.in-Err.stop awaits
-    (from_small s c.args.self.now.played c.args.reader.now.progress)
+    (from_small s c.args.self.now.played c.args.capture.now.reader.now.progress)
     refl c.end_reading-in-Err.result
     (c.end_reading-in-Err.ensures.ends awaits.replay.state.gpu awaits.stands.state.gpu)
 
@@ -49,71 +53,101 @@ pub returns-in-Err-write_before_words-clause-ends : goal.returns-in-Err-write_be
 returns-in-Err-write_before_words-clause-ends g c = λ s e.
     let awaits = awaits_is _ _ _ _ _ _ _ _ _ _ c.in-Ok.is (c.events.invariant.awaits s e) in
     let played = plays_on _ _ _ _ _ _ _ _ _ _ c.in-Ok.event awaits
-    (c.in_default.ensures.ok awaits.replay awaits.stands awaits.free) in
-    pause_ends _ _ _ _ _ _ _ _ (g.K.Sink.held c.write_before_words.new.out) c.in-Err-write_before_words.event played
-    (from_small s c.args.self.now.played c.args.reader.now.progress) c.in-Err-write_before_words.ensures.failed
+    (c.in_default.ensures.plays.ok awaits.replay awaits.stands awaits.free) in
+    pause_ends _ _ _ _ _ _ _ _ (g.K.Sink.held c.write_before_words.new.lines.out.now) c.in-Err-write_before_words.event played
+    (from_small s c.args.self.now.played c.args.capture.now.reader.now.progress) c.in-Err-write_before_words.ensures.failed
 
 pub returns-in-Err-play_words-clause-ends : goal.returns-in-Err-play_words-clause-ends
 returns-in-Err-play_words-clause-ends g c = λ s e.
     let awaits = awaits_is _ _ _ _ _ _ _ _ _ _ c.in-Ok.is (c.events.invariant.awaits s e) in
     let played = plays_on _ _ _ _ _ _ _ _ _ _ c.in-Ok.event awaits
-    (c.in_default.ensures.ok awaits.replay awaits.stands awaits.free) in
+    (c.in_default.ensures.plays.ok awaits.replay awaits.stands awaits.free) in
     let started = rw c.in-Ok.is at c.events.invariant.known in
     let paused = pauses_on _ _ _ _ _ _ _ c.in-Ok-write_before_words.offset _ _
-    (g.K.Sink.held c.write_before_words.new.out) played started c.in-Ok-write_before_words.ensures.ok in
+    (g.K.Sink.held c.write_before_words.new.lines.out.now) played started c.in-Ok-write_before_words.ensures.ok in
     let read = c.read_words-read.ensures in
     words_fail _ _ _ _ _ _ _ _ _ _ _ _ _ _ _ _ _
     paused.reached read.suit.unwatched c.play_words.ensures.ram c.play_words.ensures.running
     c.play_words.ensures.told (rw read.goes_on.version started)
     (λ is. let few = read.suit.few is in let near = c.in-Ok-write_before_words.ensures.near in omega (arith, few, near))
-    (g.K.Sink.held c.play_words.new.out) c.play_words.new.buffered c.in-Err-play_words.event c.read_words-read.result
+    (g.K.Sink.held c.play_words.new.lines.out.now) c.play_words.new.lines.buffered.now c.in-Err-play_words.event c.read_words-read.result
     (rw c.events.invariant.mode at c.in-Err-play_words.ensures.puts) read.takes read.stop
-    (from_small s c.args.self.now.played c.args.reader.now.progress)
+    (from_small s c.args.self.now.played c.args.capture.now.reader.now.progress)
 
 pub returns-in-Err-read-clause-ends : goal.returns-in-Err-read-clause-ends
 returns-in-Err-read-clause-ends g c = λ s e.
     let awaits = awaits_is _ _ _ _ _ _ _ _ _ _ c.in-Ok.is (c.events.invariant.awaits s e) in
     let played = plays_on _ _ _ _ _ _ _ _ _ _ c.in-Ok.event awaits
-    (c.in_default.ensures.ok awaits.replay awaits.stands awaits.free) in
+    (c.in_default.ensures.plays.ok awaits.replay awaits.stands awaits.free) in
     let started = rw c.in-Ok.is at c.events.invariant.known in
     let paused = pauses_on _ _ _ _ _ _ _ c.in-Ok-write_before_words.offset _ _
-    (g.K.Sink.held c.write_before_words.new.out) played started c.in-Ok-write_before_words.ensures.ok in
+    (g.K.Sink.held c.write_before_words.new.lines.out.now) played started c.in-Ok-write_before_words.ensures.ok in
     let read = c.read_words-read.ensures in
     let stopped = words_stop _ _ _ _ _ _ _ _ _ _ _ _ _ _ _ _ _
     paused.reached read.suit.unwatched c.play_words.ensures.ram c.play_words.ensures.running
     c.play_words.ensures.told (rw read.goes_on.version started)
     (λ is. let few = read.suit.few is in let near = c.in-Ok-write_before_words.ensures.near in omega (arith, few, near))
-    (g.K.Sink.held c.play_words.new.out) c.play_words.new.buffered c.in_default-play_words.field-0 c.in-Err-read.stop
+    (g.K.Sink.held c.play_words.new.lines.out.now) c.play_words.new.lines.buffered.now c.in_default-play_words.field-0 c.in-Err-read.stop
     (rw c.events.invariant.mode at c.in_default-play_words.ensures.puts)
     ((rw c.events.invariant.mode at c.play_words.ensures.free) paused.reached.free)
     c.in-Err-read.ensures.stop in
-    let mid = buffering c.play_words.new.buffered (outlets (g.K.Sink.held c.play_words.new.out)
-    (g.K.Sink.faults c.play_words.new.out) (map g.T.Listener.heard c.play_words.new.taps.items)
+    let mid = buffering c.play_words.new.lines.buffered.now (outlets (g.K.Sink.held c.play_words.new.lines.out.now)
+    (g.K.Sink.faults c.play_words.new.lines.out.now) (map g.T.Listener.heard c.play_words.new.taps.items)
     c.play_words.new.steps) in
     reading_ends _ _ _ _ mid _ _ _ _ c.in-Err-read.stop stopped
-    (from_small s c.args.self.now.played c.args.reader.now.progress)
+    (from_small s c.args.self.now.played c.args.capture.now.reader.now.progress)
     refl c.end_reading.result
     (c.end_reading.ensures.ends stopped.replay.state.gpu stopped.stands.state.gpu)
 
-pub returns-in-Err-write_at_pause-clause-ends : goal.returns-in-Err-write_at_pause-clause-ends
-returns-in-Err-write_at_pause-clause-ends g c = λ s e.
+pub returns-in-Err-write_before_event-clause-ends : goal.returns-in-Err-write_before_event-clause-ends
+returns-in-Err-write_before_event-clause-ends g c = λ s e.
     let awaits = awaits_is _ _ _ _ _ _ _ _ _ _ c.in-Ok.is (c.events.invariant.awaits s e) in
     let played = plays_on _ _ _ _ _ _ _ _ _ _ c.in-Ok.event awaits
-    (c.in_default.ensures.ok awaits.replay awaits.stands awaits.free) in
+    (c.in_default.ensures.plays.ok awaits.replay awaits.stands awaits.free) in
     let started = rw c.in-Ok.is at c.events.invariant.known in
     let paused = pauses_on _ _ _ _ _ _ _ c.in-Ok-write_before_words.offset _ _
-    (g.K.Sink.held c.write_before_words.new.out) played started c.in-Ok-write_before_words.ensures.ok in
+    (g.K.Sink.held c.write_before_words.new.lines.out.now) played started c.in-Ok-write_before_words.ensures.ok in
     let read = c.read_words-read.ensures in
-    pause_ends _ _ _ _ _ _ _ _ (g.K.Sink.held c.write_at_pause.new.out) c.in-Err-write_at_pause.event
+    pause_ends _ _ _ _ _ _ _ _ (g.K.Sink.held c.write_before_event.new.lines.out.now) c.in-Err-write_before_event.event
     (words_went _ _ _ _ _ _ _ _ _ _ _ _ _ _ _ _ _
     paused.reached read.suit.unwatched c.play_words.ensures.ram c.play_words.ensures.running
     c.play_words.ensures.told (rw read.goes_on.version started)
     (λ is. let few = read.suit.few is in let near = c.in-Ok-write_before_words.ensures.near in omega (arith, few, near))
-    (g.K.Sink.held c.play_words.new.out) c.play_words.new.buffered c.in_default-play_words.field-0
+    (g.K.Sink.held c.play_words.new.lines.out.now) c.play_words.new.lines.buffered.now c.in_default-play_words.field-0
     (rw c.events.invariant.mode at c.in_default-play_words.ensures.puts)
     ((rw c.events.invariant.mode at c.play_words.ensures.free) paused.reached.free)
     c.in_default-read.ensures.takes)
-    (from_small s c.args.self.now.played c.args.reader.now.progress) c.in-Err-write_at_pause.ensures.failed
+    (from_small s c.args.self.now.played c.args.capture.now.reader.now.progress) c.in-Err-write_before_event.ensures.failed
+
+pub returns-in-Err-read-clause-reads : goal.returns-in-Err-read-clause-reads
+returns-in-Err-read-clause-reads g c =
+    let was = c.events.invariant.read_faults in
+    record {
+      kept = omega (arith, was, c.read_words-read.ensures.faults.kept);
+      cause = λ may. omega (arith, was, c.in-Err-read.ensures.faults.cause (c.end_reading.ensures.stopped may));
+    }
+
+pub returns-in-Err-read-clause-writes : goal.returns-in-Err-read-clause-writes
+returns-in-Err-read-clause-writes g c =
+    let was = c.events.invariant.write_faults in
+    let played = c.in_default.ensures.plays.causes.kept in
+    let paused = c.in-Ok-write_before_words.ensures.causes.kept in
+    let words = c.play_words.ensures.causes.kept in
+    record {
+      kept = omega (arith, was, played, paused, words, c.end_reading.ensures.causes.kept);
+      cause = λ may. omega (arith, was, played, paused, words, c.end_reading.ensures.causes.cause may);
+    }
+
+pub returns-in-Err-write_before_event-clause-writes : goal.returns-in-Err-write_before_event-clause-writes
+returns-in-Err-write_before_event-clause-writes g c =
+    let was = c.events.invariant.write_faults in
+    let played = c.in_default.ensures.plays.causes.kept in
+    let paused = c.in-Ok-write_before_words.ensures.causes.kept in
+    let words = c.play_words.ensures.causes.kept in
+    record {
+      kept = omega (arith, was, played, paused, words, c.in-Err-write_before_event.ensures.causes.kept);
+      cause = λ may. omega (arith, was, played, paused, words, c.in-Err-write_before_event.ensures.causes.cause may);
+    }
 
 pub events-smaller : goal.events-smaller
 events-smaller g c =
@@ -126,22 +160,22 @@ events-preserved g c =
       awaits = λ s e.
           let awaits = awaits_is _ _ _ _ _ _ _ _ _ _ c.in-Ok.is (c.events.invariant.awaits s e) in
           let played = plays_on _ _ _ _ _ _ _ _ _ _ c.in-Ok.event awaits
-          (c.in_default.ensures.ok awaits.replay awaits.stands awaits.free) in
+          (c.in_default.ensures.plays.ok awaits.replay awaits.stands awaits.free) in
           let started = rw c.in-Ok.is at c.events.invariant.known in
           let paused = pauses_on _ _ _ _ _ _ _ c.in-Ok-write_before_words.offset _ _
-          (g.K.Sink.held c.write_before_words.new.out) played started c.in-Ok-write_before_words.ensures.ok in
+          (g.K.Sink.held c.write_before_words.new.lines.out.now) played started c.in-Ok-write_before_words.ensures.ok in
           let read = c.read_words-read.ensures in
           let went = words_went _ _ _ _ _ _ _ _ _ _ _ _ _ _ _ _ _
           paused.reached read.suit.unwatched c.play_words.ensures.ram c.play_words.ensures.running
           c.play_words.ensures.told (rw read.goes_on.version started)
           (λ is. let few = read.suit.few is in let near = c.in-Ok-write_before_words.ensures.near in
           omega (arith, few, near))
-          (g.K.Sink.held c.play_words.new.out) c.play_words.new.buffered c.in_default-play_words.field-0
+          (g.K.Sink.held c.play_words.new.lines.out.now) c.play_words.new.lines.buffered.now c.in_default-play_words.field-0
           (rw c.events.invariant.mode at c.in_default-play_words.ensures.puts)
           ((rw c.events.invariant.mode at c.play_words.ensures.free) paused.reached.free)
           c.in_default-read.ensures.takes in
-          let again = pauses_on _ _ _ _ _ _ _ c.in-Ok-write_at_pause.offset _ _ (g.K.Sink.held c.write_at_pause.new.out)
-          went (rw read.goes_on.version started) c.in-Ok-write_at_pause.ensures.ok in
+          let again = pauses_on _ _ _ _ _ _ _ c.in-Ok-write_before_event.offset _ _ (g.K.Sink.held c.write_before_event.new.lines.out.now)
+          went (rw read.goes_on.version started) c.in-Ok-write_before_event.ensures.ok in
           reads _ _ _ _ _ _ _ _ _ _ again.reached (rw read.goes_on.version started) again.near
           c.next-next-in-Ok.result c.next-next-in-Ok.ensures.takes
           (c.next-next-in-Ok.ensures.stop c.in_default-read.ensures.runs_on);
@@ -161,9 +195,20 @@ events-preserved g c =
       write_faults = omega (
         arith,
         c.events.invariant.write_faults,
-        c.in_default.ensures.causes.kept,
+        c.in_default.ensures.plays.causes.kept,
         c.in-Ok-write_before_words.ensures.causes.kept,
         c.play_words.ensures.causes.kept,
-        c.in-Ok-write_at_pause.ensures.causes.kept,
+        c.in-Ok-write_before_event.ensures.causes.kept,
       );
+      reader = c.events.invariant.reader;
+      source = c.events.invariant.source;
+      buffered =
+          c.in-Ok-write_before_event.ensures.buffered
+          ∙ (c.play_words.ensures.buffered
+          ∙ (c.in-Ok-write_before_words.ensures.buffered
+          ∙ (c.in_default.ensures.buffered ∙ c.events.invariant.buffered)));
+      out =
+          c.in-Ok-write_before_event.ensures.out
+          ∙ (c.play_words.ensures.out
+          ∙ (c.in-Ok-write_before_words.ensures.out ∙ (c.in_default.ensures.out ∙ c.events.invariant.out)));
     }

@@ -1,6 +1,0 @@
-use Rattle.std.proofs.Common.{refl}
-use Rattle.gpu_capture.proofs.Words.{words_none}
-use Rattle.event_play.proofs.play.read_words.Goals as goal
-
-pub returns-in-Pixel-clause-takes : goal.returns-in-Pixel-clause-takes
-returns-in-Pixel-clause-takes g c = rw c.clear.ensures (words_none _ _ _ refl (λ rest. refl))
