@@ -1,12 +1,12 @@
 // Runs the program.
 ghost use Rattle.std.specs.Prelude.{◌≡◌, map};
 ghost use Rattle.dev_io.specs.Device.{side};
-ghost use Rattle.psxgpu_tool.specs.Command.{IsCommand};
+ghost use Rattle.command_line.specs.Command.{IsCommand};
 ghost use Rattle.psxgpu_tool.specs.Line.{memory_line};
 ghost use Rattle.psxgpu_tool.specs.Outside.{outside, source_side, Says, EndsTelling};
 ghost use Rattle.psxgpu_tool.specs.Run.{CommandRun, Runs};
 
-use crate::command::{Command, read_command};
+use command_line::{Command, read_command};
 use crate::demo::{play_demo, tell_demo};
 use crate::ending::{end, tell};
 use crate::texts::{HELP, VERSION};
