@@ -4,8 +4,8 @@ ghost use Rattle.std.specs.Prelude.{◌≡◌, ◌↔◌, IsTrue};
 ghost use Rattle.psxgpu_tool.specs.Person.{IsBrokenPipe};
 ghost use Rattle.command_line.specs.Typed.{IsBinary, NamesSome};
 
-use command_line::{names_binary, names_reader, refusal_hint, usage_hint};
 use crate::lasts::tell_lasts;
+use command_line::{names_binary, names_reader, refusal_hint, usage_hint};
 use std::alloc::AllocError;
 use std::io::{Error, ErrorKind, IsTerminal};
 use std::{fs, str};
