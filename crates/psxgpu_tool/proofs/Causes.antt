@@ -14,7 +14,7 @@ use Rattle.gpu_capture.proofs.Spelled.{spell-append}
 use Rattle.gpu_taps.specs.Tally.{Reading}
 use Rattle.psxgpu_tool.specs.Outside.{Outside}
 use Rattle.psxgpu_tool.specs.Run.{CommandRun, RunsAs}
-use Rattle.psxgpu_tool.specs.declared.command.Command.{Command}
+use Rattle.command_line.specs.declared.command.Command.{Command}
 
 -- ---- the exit status
 

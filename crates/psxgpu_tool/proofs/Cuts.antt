@@ -26,7 +26,7 @@ use Rattle.psxgpu_tool.specs.First.{first, play_file, seen}
 use Rattle.psxgpu_tool.specs.Line.{cut_status, cut_text}
 use Rattle.psxgpu_tool.specs.Outside.{Outside, Says, HasFailed, HasFailedToRead}
 use Rattle.psxgpu_tool.specs.Run.{CommandRun}
-use Rattle.psxgpu_tool.specs.declared.command.Command.TheVariants.{Cut}
+use Rattle.command_line.specs.declared.command.Command.TheVariants.{Cut}
 use Rattle.psxgpu_tool.proofs.Causes.{HasCause, is_done, is_refused, is_read, is_write, answers, IsCut, cut, if_told}
 use Rattle.psxgpu_tool.proofs.Causes.{stop_read, first_read, longer}
 

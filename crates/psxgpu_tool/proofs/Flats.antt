@@ -30,7 +30,7 @@ use Rattle.psxgpu_tool.specs.FlatRun.{flat_of, FlatWhole, EndsAsFlat}
 use Rattle.psxgpu_tool.specs.Line.{status_of, status_of_stop, flat_status, flat_text}
 use Rattle.psxgpu_tool.specs.Outside.{Outside, Says, HasFailed, HasFailedToRead}
 use Rattle.psxgpu_tool.specs.Run.{CommandRun}
-use Rattle.psxgpu_tool.specs.declared.command.Command.TheVariants.{Flat}
+use Rattle.command_line.specs.declared.command.Command.TheVariants.{Flat}
 use Rattle.psxgpu_tool.proofs.Causes.{HasCause, is_done, is_refused, is_read, is_write, answers, IsCut, cut, if_told}
 use Rattle.psxgpu_tool.proofs.Causes.{stop_read, going_on, first_read, longer}
 

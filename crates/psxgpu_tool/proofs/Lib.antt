@@ -1,15 +1,12 @@
 pub mod Causes
-pub mod Commands
 pub mod Cuts
 pub mod First
 pub mod Flats
 pub mod Generating
 pub mod Heights
-pub mod LastWord
 pub mod Lines
 pub mod Running
 pub mod Slims
 pub mod Sums
-pub mod TakenApart
 pub mod Told
 pub mod Words

@@ -14,7 +14,7 @@ use Rattle.event_play.specs.declared.ending.Ending.{Ending}
 use Rattle.event_play.specs.declared.ending.Ending.TheVariants.{Done, WriteFailed}
 use Rattle.event_play.proofs.BoxCosts.{costs_small}
 use Rattle.px_num.specs.Height.{short_height}
-use Rattle.psxgpu_tool.specs.Command.{Names, IsUsage}
+use Rattle.command_line.specs.Command.{Names, IsUsage}
 use Rattle.psxgpu_tool.specs.Demo.{demo_events, demo_words}
 use Rattle.psxgpu_tool.specs.DemoOut.{demo_bytes, demo_replay, demo_out, demo_cost, demo_box_cost, cells_cost}
 use Rattle.psxgpu_tool.specs.First.{first}
@@ -23,10 +23,10 @@ use Rattle.psxgpu_tool.specs.Outside.{Outside, Says, EndsTelling}
 use Rattle.psxgpu_tool.specs.Run.{CommandRun, Declined, Runs, RunsAs}
 use Rattle.psxgpu_tool.specs.TellRun.{Tells}
 use Rattle.psxgpu_tool.specs.Words.{HavePlayed, whole_replay}
-use Rattle.psxgpu_tool.specs.declared.command.Command.{Command}
-use Rattle.psxgpu_tool.specs.declared.command.Command.TheVariants.{Demo}
+use Rattle.command_line.specs.declared.command.Command.{Command}
+use Rattle.command_line.specs.declared.command.Command.TheVariants.{Demo}
 use Rattle.psxgpu_tool.proofs.Causes.{answers}
-use Rattle.psxgpu_tool.proofs.Commands.{same_command}
+use Rattle.command_line.proofs.Commands.{same_command}
 use Rattle.psxgpu_tool.proofs.First.{first_stands, first_short}
 use Rattle.psxgpu_tool.proofs.Told.{ending_cause}
 

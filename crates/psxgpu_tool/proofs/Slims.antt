@@ -20,7 +20,7 @@ use Rattle.psxgpu_tool.specs.Line.{slim_status, slim_text}
 use Rattle.psxgpu_tool.specs.Outside.{Outside, Says, HasFailed, HasFailedToRead}
 use Rattle.psxgpu_tool.specs.Run.{CommandRun}
 use Rattle.psxgpu_tool.specs.SlimRun.{slim_of, stop_status, SlimWhole, EndsAsSlim}
-use Rattle.psxgpu_tool.specs.declared.command.Command.TheVariants.{Slim}
+use Rattle.command_line.specs.declared.command.Command.TheVariants.{Slim}
 use Rattle.psxgpu_tool.proofs.Causes.{HasCause, is_done, is_refused, is_read, is_write, answers, IsCut, cut, if_told}
 use Rattle.psxgpu_tool.proofs.Causes.{stop_read, first_read}
 

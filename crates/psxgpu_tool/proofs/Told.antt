@@ -26,7 +26,7 @@ use Rattle.psxgpu_tool.specs.Line.{status_of, ending_line, ending_text, any_stat
 use Rattle.psxgpu_tool.specs.Outside.{Outside, Says, HasFailed, HasFailedToRead}
 use Rattle.psxgpu_tool.specs.PlayRun.{WholeRun, RefusedRun, StarvedRun, BlockedRun, PlayRun}
 use Rattle.psxgpu_tool.specs.Run.{CommandRun}
-use Rattle.psxgpu_tool.specs.declared.command.Command.TheVariants.{Plays}
+use Rattle.command_line.specs.declared.command.Command.TheVariants.{Plays}
 use Rattle.psxgpu_tool.proofs.Causes.{HasCause, is_done, is_refused, is_read, is_write, answers, IsCut, cut}
 use Rattle.psxgpu_tool.proofs.Causes.{none_left, all_read, if_told}
 

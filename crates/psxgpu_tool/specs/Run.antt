@@ -2,7 +2,7 @@
 use Rattle.std.specs.Prelude.{◌≡◌, ◌≤◌, ◌↔◌, ℕ, List, Vec, String}
 use Rattle.std.specs.declared.alloc.Global.{Global}
 use Rattle.gpu_taps.specs.Tally.{Reading}
-use Rattle.psxgpu_tool.specs.Command.{Names, IsUsage}
+use Rattle.command_line.specs.Command.{Names, IsUsage}
 use Rattle.psxgpu_tool.specs.CutRun.{CutRun}
 use Rattle.psxgpu_tool.specs.FlatRun.{FlatRun}
 use Rattle.psxgpu_tool.specs.Line.{usage_line, memory_line}
@@ -11,8 +11,8 @@ use Rattle.psxgpu_tool.specs.PlayRun.{PlayRun}
 use Rattle.psxgpu_tool.specs.SlimRun.{SlimRun}
 use Rattle.psxgpu_tool.specs.TellRun.{DemoRun, TextRun, Unread}
 use Rattle.psxgpu_tool.specs.declared.texts.TheConstants.{HELP, VERSION}
-use Rattle.psxgpu_tool.specs.declared.command.Command.{Command}
-use Rattle.psxgpu_tool.specs.declared.command.Command.TheVariants.{Plays, Flat, Slim, Cut, Demo, Help, Version}
+use Rattle.command_line.specs.declared.command.Command.{Command}
+use Rattle.command_line.specs.declared.command.Command.TheVariants.{Plays, Flat, Slim, Cut, Demo, Help, Version}
 
 -- what a run of a command does
 abbrev pub RunsAs : Command → (heard : List Reading) → (before now : Outside) → (status : ℕ) → Type 0

@@ -2,11 +2,10 @@
 // error is not a terminal, except the line of a file that cannot be opened and that of binary output to a terminal.
 ghost use Rattle.std.specs.Prelude.{◌≡◌, ◌↔◌, IsTrue};
 ghost use Rattle.psxgpu_tool.specs.Person.{IsBrokenPipe};
-ghost use Rattle.psxgpu_tool.specs.Typed.{IsBinary, NamesSome};
+ghost use Rattle.command_line.specs.Typed.{IsBinary, NamesSome};
 
-use crate::hints::{refusal_hint, usage_hint};
 use crate::lasts::tell_lasts;
-use crate::typed::{names_binary, names_reader};
+use command_line::{names_binary, names_reader, refusal_hint, usage_hint};
 use std::alloc::AllocError;
 use std::io::{Error, ErrorKind, IsTerminal};
 use std::{fs, str};

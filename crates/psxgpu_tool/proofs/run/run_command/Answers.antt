@@ -1,6 +1,6 @@
 use Rattle.std.proofs.Common.{refl, subst, ◌∙◌}
 use Rattle.event_play.specs.Step.{first_machine}
-use Rattle.psxgpu_tool.specs.Command.{IsCommand}
+use Rattle.command_line.specs.Command.{IsCommand}
 use Rattle.psxgpu_tool.proofs.First.{first_stands}
 use Rattle.psxgpu_tool.proofs.Cuts.{cut_runs}
 use Rattle.psxgpu_tool.proofs.Flats.{flat_runs}

@@ -3,9 +3,9 @@ use Rattle.std.specs.Prelude.{◌≡◌, ◌⊎◌, ℕ, List, [], ◌∷◌, �
 use Rattle.std.specs.Prelude.{map, codes, string_bytes}
 use Rattle.std.specs.declared.alloc.Global.{Global}
 use Rattle.event_play.specs.declared.ending.Mode.TheVariants.{Vram, Shot, Frames}
-use Rattle.psxgpu_tool.specs.Command.{AreNames}
-use Rattle.psxgpu_tool.specs.declared.command.Command.{Command}
-use Rattle.psxgpu_tool.specs.declared.command.Command.TheVariants.{Plays, Flat, Slim, Cut, Demo, Help, Version}
+use Rattle.command_line.specs.Command.{AreNames}
+use Rattle.command_line.specs.declared.command.Command.{Command}
+use Rattle.command_line.specs.declared.command.Command.TheVariants.{Plays, Flat, Slim, Cut, Demo, Help, Version}
 
 -- the command reads a capture
 abbrev pub Reads : Command → Type 0

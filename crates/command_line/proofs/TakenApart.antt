@@ -1,11 +1,11 @@
 -- Three of the four ways in which the file name is separated from the arguments.
-use Rattle.std.proofs.Common.{◌≡◌, ◌∷◌, ◌++◌, [], List, Bool, String, Option, None, Some, IsSome, option_to_list}
+use Rattle.std.proofs.Common.{◌≡◌, ◌∷◌, ◌++◌, [], Bool, String, Option, None, Some, IsSome, option_to_list}
 use Rattle.std.proofs.Common.{map, string_bytes, refl, sym, ap, ◌∙◌}
 use Rattle.std.specs.declared.alloc.Global.{Global}
-use Rattle.psxgpu_tool.proofs.LastWord.{same_parts}
-use Rattle.psxgpu_tool.specs.Command.{AreNames}
-use Rattle.psxgpu_tool.specs.Typed.{AsksForHelp, EndsInFile, HasFile, IsTyped, NamesAny, Words}
-use Rattle.psxgpu_tool.specs.declared.command.Command.TheVariants.{Help}
+use Rattle.command_line.proofs.LastWord.{same_parts}
+use Rattle.command_line.specs.Command.{AreNames}
+use Rattle.command_line.specs.Typed.{AsksForHelp, EndsInFile, HasFile, IsTyped, NamesAny, Words}
+use Rattle.command_line.specs.declared.command.Command.TheVariants.{Help}
 
 pub typed_help : (is_there : Bool) (words typed : Words) → ¬ NamesAny words → AsksForHelp words →
     AreNames (map string_bytes typed) Help → IsTyped is_there words typed None

@@ -1,7 +1,7 @@
-use Rattle.std.proofs.Common.{◌∷◌, ◌++◌, refl, sym, ◌∙◌}
+use Rattle.std.proofs.Common.{refl, sym, ◌∙◌}
 use Rattle.std.specs.Prelude.{string_bytes}
-use Rattle.psxgpu_tool.proofs.LastWord.{same_parts}
-use Rattle.psxgpu_tool.proofs.typed.ends_in_file.Goals as goal
+use Rattle.command_line.proofs.LastWord.{same_parts}
+use Rattle.command_line.proofs.typed.ends_in_file.Goals as goal
 
 pub returns-in-Some : goal.returns-in-Some
 returns-in-Some c =

@@ -1,9 +1,9 @@
 // The arguments as a person types them: those of a command, and a file name as the last of them.
 ghost use Rattle.std.specs.Prelude.{◌≡◌, ◌↔◌, ℕ, List, [], ◌∷◌, IsTrue, IfOk, map, string_bytes, codes, MatchOption};
-ghost use Rattle.psxgpu_tool.specs.Command.{AreNames};
-ghost use Rattle.psxgpu_tool.specs.Typed.{AsksForHelp, EndsInHelp, HasFile, IsAlone, IsBinary, IsFileName, IsHelpWord};
-ghost use Rattle.psxgpu_tool.specs.Typed.{EndsAfterReader};
-ghost use Rattle.psxgpu_tool.specs.Typed.{IsTyped, NamesAny, NamesSome, Reads};
+ghost use Rattle.command_line.specs.Command.{AreNames};
+ghost use Rattle.command_line.specs.Typed.{AsksForHelp, EndsInHelp, HasFile, IsAlone, IsBinary, IsFileName, IsHelpWord};
+ghost use Rattle.command_line.specs.Typed.{EndsAfterReader};
+ghost use Rattle.command_line.specs.Typed.{IsTyped, NamesAny, NamesSome, Reads};
 
 use crate::command::{Command, command_of};
 use crate::spelled::is_same;

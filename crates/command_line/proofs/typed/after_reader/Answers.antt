@@ -1,6 +1,6 @@
 use Rattle.std.proofs.Common.{◌≡◌, ◌-◌, [], ◌∷◌, ◌++◌, length, take, refl, sym}
-use Rattle.psxgpu_tool.proofs.LastWord.{last_apart}
-use Rattle.psxgpu_tool.proofs.typed.after_reader.Goals as goal
+use Rattle.command_line.proofs.LastWord.{last_apart}
+use Rattle.command_line.proofs.typed.after_reader.Goals as goal
 
 pub returns-in-len1-up : goal.returns-in-len1-up
 returns-in-len1-up c =

@@ -1,7 +1,7 @@
 -- The last element of a list.
-use Rattle.std.proofs.Common.{◌≡◌, ◌≤◌, ◌<◌, ◌-◌, ◌+◌, ◌∙◌, ℕ, List, [], ◌∷◌, ◌++◌, length, take, get_or, arith, refl}
+use Rattle.std.proofs.Common.{◌≡◌, ◌≤◌, ◌-◌, ◌+◌, ◌∙◌, List, [], ◌∷◌, ◌++◌, length, take, get_or, arith, refl}
 use Rattle.std.proofs.Common.{ap}
-use Rattle.std.proofs.Common.{length-append, subst, sym}
+use Rattle.std.proofs.Common.{length-append, sym}
 use Rattle.std.proofs.lemmas.List.{take_more, take_all}
 
 -- what comes before the last element, and this element

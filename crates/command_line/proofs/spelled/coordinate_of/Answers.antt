@@ -1,6 +1,6 @@
 use Rattle.std.proofs.Common.{◌≡◌, decimal, arith, ap, sym, ◌∙◌}
 use Rattle.std.proofs.lemmas.Fmt.{parse-decimal}
-use Rattle.psxgpu_tool.proofs.spelled.coordinate_of.Goals as goal
+use Rattle.command_line.proofs.spelled.coordinate_of.Goals as goal
 
 pub returns-else-is_coordinate : goal.returns-else-is_coordinate
 returns-else-is_coordinate c = λ n few is.

@@ -8,9 +8,9 @@ use Rattle.event_play.specs.declared.ending.Mode.TheVariants.{Vram, Shot, Report
 use Rattle.event_play.specs.declared.ending.Mode.TheVariants.{List as Listing, Play as Words}
 use Rattle.event_play.specs.declared.ending.FrameTrigger.{FrameTrigger}
 use Rattle.event_play.specs.declared.ending.FrameTrigger.TheVariants.{Flip, Mark}
-use Rattle.psxgpu_tool.specs.Command.{names_of, AreNames, IsCommand}
-use Rattle.psxgpu_tool.specs.declared.command.Command.{Command}
-use Rattle.psxgpu_tool.specs.declared.command.Command.TheVariants.{Plays, Flat, Slim, Cut, Demo, Help, Version}
+use Rattle.command_line.specs.Command.{names_of, AreNames, IsCommand}
+use Rattle.command_line.specs.declared.command.Command.{Command}
+use Rattle.command_line.specs.declared.command.Command.TheVariants.{Plays, Flat, Slim, Cut, Demo, Help, Version}
 
 -- the first, third and fourth letter of a name: no two commands have the same
 abbrev letters : List ℕ → ℕ

@@ -1,8 +1,7 @@
-use Rattle.std.proofs.Common.{◌≡◌, ◌-◌, [], ◌∷◌, ◌++◌, length, take, sym, ◌∙◌, ap}
+use Rattle.std.proofs.Common.{◌≡◌, ◌-◌, [], ◌∷◌, ◌++◌, length, take, sym, ◌∙◌}
 use Rattle.std.specs.Prelude.{string_bytes}
-use Rattle.psxgpu_tool.specs.Typed.{IsHelpWord}
-use Rattle.psxgpu_tool.proofs.LastWord.{last_apart, same_parts}
-use Rattle.psxgpu_tool.proofs.typed.ends_in_help.Goals as goal
+use Rattle.command_line.proofs.LastWord.{last_apart, same_parts}
+use Rattle.command_line.proofs.typed.ends_in_help.Goals as goal
 
 pub returns-in-len1-up : goal.returns-in-len1-up
 returns-in-len1-up c =

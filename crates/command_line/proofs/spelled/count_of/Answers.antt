@@ -1,6 +1,6 @@
 use Rattle.std.proofs.Common.{◌≡◌, decimal, arith, ap, sym, ◌∙◌}
 use Rattle.std.proofs.lemmas.Fmt.{parse-decimal}
-use Rattle.psxgpu_tool.proofs.spelled.count_of.Goals as goal
+use Rattle.command_line.proofs.spelled.count_of.Goals as goal
 
 pub returns-else-is_count : goal.returns-else-is_count
 returns-else-is_count c = λ n low high is.

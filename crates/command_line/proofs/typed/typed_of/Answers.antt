@@ -1,9 +1,9 @@
-use Rattle.std.proofs.Common.{◌≡◌, ◌<◌, ◌+◌, arith, sym, ap, refl, length, [], ◌∷◌, Some, IsSome}
+use Rattle.std.proofs.Common.{arith, ap, refl, length, [], ◌∷◌, Some, IsSome}
 use Rattle.std.proofs.Common.{length-append}
-use Rattle.psxgpu_tool.specs.Typed.{AsksForHelp, HasFile, IsTyped, NamesAny}
-use Rattle.psxgpu_tool.proofs.TakenApart.{typed_file, typed_help, typed_other, popped_last}
-use Rattle.psxgpu_tool.proofs.typed.typed_of.Goals as goal
-use Rattle.psxgpu_tool.proofs.typed.typed_of.Goals.{then-ends_in_file, else-ends_in_file}
+use Rattle.command_line.specs.Typed.{AsksForHelp, HasFile, IsTyped, NamesAny}
+use Rattle.command_line.proofs.TakenApart.{typed_file, typed_help, typed_other, popped_last}
+use Rattle.command_line.proofs.typed.typed_of.Goals as goal
+use Rattle.command_line.proofs.typed.typed_of.Goals.{then-ends_in_file, else-ends_in_file}
 
 pub returns-then-asks_for_help : goal.returns-then-asks_for_help
 returns-then-asks_for_help c =
