@@ -46,8 +46,8 @@ impl Rig {
         }
     }
 
-    // Plays a word written to GP0, as `play_event` does. The word needs no validation, since it has no fault. It changes
-    // only the GPU and the number of events.
+    // Plays a word written to GP0, as `play_event` does. The word needs no validation, since it has no fault. It
+    // changes only the GPU and the number of events.
     fn play_word<K: Sink, T: Listener, L: Ledger>(
         &mut self,
         word: InMode<u32>,

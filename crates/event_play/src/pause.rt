@@ -13,8 +13,8 @@ use gpu_capture::EventReader;
 /// A block of words has at most this many bytes. It is read only if fewer bytes were read since the last flush.
 const BLOCK: u32 = 2048;
 
-/// Flushes the buffer of `lines` before a block of words is read, if at least `BLOCK` bytes were read since the last flush.
-/// Argument `since` and results are those of `event_loop::write_at_pause`.
+/// Flushes the buffer of `lines` before a block of words is read, if at least `BLOCK` bytes were read since the last
+/// flush. Argument `since` and results are those of `event_loop::write_at_pause`.
 pub(crate) fn write_before_words<K: Sink>(
     reader: &EventReader,
     since: u32,

@@ -42,8 +42,8 @@ returns-in-Err-play_event-clause-ends g c = λ s e.
 pub returns-in-Err-clause-ends : goal.returns-in-Err-clause-ends
 returns-in-Err-clause-ends g c = λ s e.
     let awaits = awaits_is _ _ _ _ _ _ _ _ _ _ c.in-Err.is (c.events.invariant.awaits s e) in
-    let mid = buffering c.events.lines.buffered.now (outlets (g.K.Sink.held c.events.lines.out.now) (g.K.Sink.faults c.events.lines.out.now)
-    (map g.T.Listener.heard c.events.taps.items) c.events.steps) in
+    let mid = buffering c.events.lines.buffered.now (outlets (g.K.Sink.held c.events.lines.out.now)
+    (g.K.Sink.faults c.events.lines.out.now) (map g.T.Listener.heard c.events.taps.items) c.events.steps) in
     reading_ends _ _ _ _ mid _ _ _ _ c.in-Err.stop awaits
     (from_small s c.args.self.now.played c.args.capture.now.reader.now.progress)
     refl c.end_reading-in-Err.result
@@ -54,8 +54,10 @@ returns-in-Err-write_before_words-clause-ends g c = λ s e.
     let awaits = awaits_is _ _ _ _ _ _ _ _ _ _ c.in-Ok.is (c.events.invariant.awaits s e) in
     let played = plays_on _ _ _ _ _ _ _ _ _ _ c.in-Ok.event awaits
     (c.in_default.ensures.plays.ok awaits.replay awaits.stands awaits.free) in
-    pause_ends _ _ _ _ _ _ _ _ (g.K.Sink.held c.write_before_words.new.lines.out.now) c.in-Err-write_before_words.event played
-    (from_small s c.args.self.now.played c.args.capture.now.reader.now.progress) c.in-Err-write_before_words.ensures.failed
+    pause_ends _ _ _ _ _ _ _ _ (g.K.Sink.held c.write_before_words.new.lines.out.now)
+    c.in-Err-write_before_words.event played
+    (from_small s c.args.self.now.played c.args.capture.now.reader.now.progress)
+    c.in-Err-write_before_words.ensures.failed
 
 pub returns-in-Err-play_words-clause-ends : goal.returns-in-Err-play_words-clause-ends
 returns-in-Err-play_words-clause-ends g c = λ s e.
@@ -70,7 +72,8 @@ returns-in-Err-play_words-clause-ends g c = λ s e.
     paused.reached read.suit.unwatched c.play_words.ensures.ram c.play_words.ensures.running
     c.play_words.ensures.told (rw read.goes_on.version started)
     (λ is. let few = read.suit.few is in let near = c.in-Ok-write_before_words.ensures.near in omega (arith, few, near))
-    (g.K.Sink.held c.play_words.new.lines.out.now) c.play_words.new.lines.buffered.now c.in-Err-play_words.event c.read_words-read.result
+    (g.K.Sink.held c.play_words.new.lines.out.now) c.play_words.new.lines.buffered.now c.in-Err-play_words.event
+    c.read_words-read.result
     (rw c.events.invariant.mode at c.in-Err-play_words.ensures.puts) read.takes read.stop
     (from_small s c.args.self.now.played c.args.capture.now.reader.now.progress)
 
@@ -87,7 +90,8 @@ returns-in-Err-read-clause-ends g c = λ s e.
     paused.reached read.suit.unwatched c.play_words.ensures.ram c.play_words.ensures.running
     c.play_words.ensures.told (rw read.goes_on.version started)
     (λ is. let few = read.suit.few is in let near = c.in-Ok-write_before_words.ensures.near in omega (arith, few, near))
-    (g.K.Sink.held c.play_words.new.lines.out.now) c.play_words.new.lines.buffered.now c.in_default-play_words.field-0 c.in-Err-read.stop
+    (g.K.Sink.held c.play_words.new.lines.out.now) c.play_words.new.lines.buffered.now c.in_default-play_words.field-0
+    c.in-Err-read.stop
     (rw c.events.invariant.mode at c.in_default-play_words.ensures.puts)
     ((rw c.events.invariant.mode at c.play_words.ensures.free) paused.reached.free)
     c.in-Err-read.ensures.stop in
@@ -117,7 +121,8 @@ returns-in-Err-write_before_event-clause-ends g c = λ s e.
     (rw c.events.invariant.mode at c.in_default-play_words.ensures.puts)
     ((rw c.events.invariant.mode at c.play_words.ensures.free) paused.reached.free)
     c.in_default-read.ensures.takes)
-    (from_small s c.args.self.now.played c.args.capture.now.reader.now.progress) c.in-Err-write_before_event.ensures.failed
+    (from_small s c.args.self.now.played c.args.capture.now.reader.now.progress)
+    c.in-Err-write_before_event.ensures.failed
 
 pub returns-in-Err-read-clause-reads : goal.returns-in-Err-read-clause-reads
 returns-in-Err-read-clause-reads g c =
@@ -170,11 +175,13 @@ events-preserved g c =
           c.play_words.ensures.told (rw read.goes_on.version started)
           (λ is. let few = read.suit.few is in let near = c.in-Ok-write_before_words.ensures.near in
           omega (arith, few, near))
-          (g.K.Sink.held c.play_words.new.lines.out.now) c.play_words.new.lines.buffered.now c.in_default-play_words.field-0
+          (g.K.Sink.held c.play_words.new.lines.out.now) c.play_words.new.lines.buffered.now
+          c.in_default-play_words.field-0
           (rw c.events.invariant.mode at c.in_default-play_words.ensures.puts)
           ((rw c.events.invariant.mode at c.play_words.ensures.free) paused.reached.free)
           c.in_default-read.ensures.takes in
-          let again = pauses_on _ _ _ _ _ _ _ c.in-Ok-write_before_event.offset _ _ (g.K.Sink.held c.write_before_event.new.lines.out.now)
+          let again = pauses_on _ _ _ _ _ _ _ c.in-Ok-write_before_event.offset _ _
+          (g.K.Sink.held c.write_before_event.new.lines.out.now)
           went (rw read.goes_on.version started) c.in-Ok-write_before_event.ensures.ok in
           reads _ _ _ _ _ _ _ _ _ _ again.reached (rw read.goes_on.version started) again.near
           c.next-next-in-Ok.result c.next-next-in-Ok.ensures.takes

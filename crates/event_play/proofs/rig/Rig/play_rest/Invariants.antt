@@ -15,13 +15,15 @@ invariant-events g l = record {
       (script_after (from_state s l.fn.self.played) l.fn.capture.reader.now.progress)
       (streams (g.S.Source.left l.fn.capture.source.now) (g.K.Sink.held l.fn.lines.out.now)
       (map g.T.Listener.heard l.fn.taps.items) l.fn.steps)
-      (streams (g.S.Source.left l.capture.source.now) (g.K.Sink.held l.lines.out.now) (map g.T.Listener.heard l.taps.items) l.steps)
+      (streams (g.S.Source.left l.capture.source.now) (g.K.Sink.held l.lines.out.now)
+      (map g.T.Listener.heard l.taps.items) l.steps)
       l.lines.buffered.now l.since l.self l.capture.reader.now.progress l.next;
   mode : l.words.mode ≡ l.mode;
   running : OnOk l.next (l.capture.reader.now.stop ≡ None);
   known : OnOk l.next (1 ≤ l.capture.reader.now.progress.version);
   read_cause : IfErr l.next
-      (λ stop. IsReadFault stop → Rose (g.S.Source.faults l.fn.capture.source.now) (g.S.Source.faults l.capture.source.now));
+      (λ stop. IsReadFault stop → Rose (g.S.Source.faults l.fn.capture.source.now)
+      (g.S.Source.faults l.capture.source.now));
   read_faults : g.S.Source.faults l.fn.capture.source.now ≤ g.S.Source.faults l.capture.source.now;
   reader : l.capture.reader.ghost_name ≡ l.fn.capture.reader.ghost_name;
   source : l.capture.source.ghost_name ≡ l.fn.capture.source.ghost_name;
