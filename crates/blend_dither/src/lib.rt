@@ -14,4 +14,6 @@ mod sum;
 mod wide;
 
 pub use pixel::{blend, modulate, pack, shift_at, tone};
-pub use wide::{blend_lanes, modulate_lanes, tone_lanes, undithered_tone_lanes};
+pub use wide::{
+    blend_lanes, modulate_lanes, tone_lanes, undithered_modulate_lanes, undithered_tone_lanes,
+};

@@ -76,6 +76,36 @@ pub fn modulate_lanes(
     )
 }
 
+/// Returns [`modulate`](crate::modulate) without dither in each lane. The colours' channels must be at most 255.
+#[inline(always)]
+pub fn undithered_modulate_lanes(texels: u16x16, red: u16x16, green: u16x16, blue: u16x16) -> u16x16
+    requires long { (length texels ≡ 16) × (length red ≡ 16) × (length green ≡ 16) × (length blue ≡ 16) }
+    requires channels { EachLane (λ i. (slice_index red i ≤ 255)
+        × (slice_index green i ≤ 255) × (slice_index blue i ≤ 255)) }
+    ensures long { length result ≡ 16 }
+    ensures value { EachLane (λ i. slice_index result i ≡ modulated_of (slice_index texels i)
+        (slice_index red i) (slice_index green i) (slice_index blue i) (pos 0)) }
+    ensures low { EachLane (λ i. slice_index result i < 2 ^ 15) }
+{
+    pack_lanes(
+        undithered_modulated(low5(texels), red),
+        undithered_modulated(low5(shifted_down(texels, 5)), green),
+        undithered_modulated(low5(shifted_down(texels, 10)), blue),
+    )
+}
+
+// Returns each product of texel and colour, divided by 128 and at most 31.
+#[inline(always)]
+fn undithered_modulated(texels: u16x16, colors: u16x16) -> u16x16
+    requires long { (length texels ≡ 16) × (length colors ≡ 16) }
+    requires low { EachLane (λ i. (slice_index texels i < 32) × (slice_index colors i ≤ 255)) }
+    ensures long { length result ≡ 16 }
+    ensures value { EachLane (λ i. slice_index result i
+        ≡ min (8 * slice_index texels i * slice_index colors i / 128) 255 / 8) }
+{
+    smaller(shifted_down(mul(texels, colors), 7), splat(31))
+}
+
 /// Returns [`blend`](crate::blend) in each lane. `mode` is at most 3.
 pub fn blend_lanes(mode: u8, back: u16x16, front: u16x16) -> u16x16
     requires mode { mode ≤ 3 }

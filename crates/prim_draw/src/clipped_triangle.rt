@@ -98,8 +98,8 @@ fn clipped_triangle<'a>(
     })
 }
 
-// Draws a triangle that has no texture or may read what it writes.
-#[inline(always)]
+// Draws a triangle that has no texture or may read what it writes. Its locals are not cleared for other triangles.
+#[inline(never)]
 fn draw_any<L: Ledger>(
     state: &DrawState,
     vram: &mut Vram,

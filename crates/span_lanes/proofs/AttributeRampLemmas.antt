@@ -91,7 +91,11 @@ painted : (paint : Paint) (x y n first k : ℕ) (colors : ColorRamps) (c : Chann
     → FromPlane colors.blue.plane (x + first) y c.blue
     → HasColors (colors_from paint (x + first) y) k c.red c.green c.blue
 painted (Flat color) x y n first k colors c some inside within few of r g b red green blue = absurd (of)
-painted (Shaded tri) x y n first k colors c some inside within few of r g b red green blue = absurd (of)
+painted (Shaded tri) x y n first k colors c some inside within few of r g b red green blue =
+    mixed_of tri (x + first) y k c few r g b
+    (part_lanes tri 0 x y n first k c.red some inside within few (red tri 0 of.red))
+    (part_lanes tri 1 x y n first k c.green some inside within few (green tri 1 of.green))
+    (part_lanes tri 2 x y n first k c.blue some inside within few (blue tri 2 of.blue))
 painted (TexturedTri tri texture) x y n first k colors c some inside within few of r g b red green blue =
     mixed_of tri (x + first) y k c few r g b
     (part_lanes tri 0 x y n first k c.red some inside within few (red tri 0 of.red))

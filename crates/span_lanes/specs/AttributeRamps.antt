@@ -5,7 +5,7 @@ use Rattle.span_lanes.specs.declared.attribute_ramps.AttributeRamps.{AttributeRa
 use Rattle.span_lanes.specs.declared.attribute_ramps.ColorRamps.{ColorRamps}
 use Rattle.span_lanes.specs.declared.attribute_ramps.CoordRamps.{CoordRamps}
 use Rattle.span_lanes.specs.declared.span.Paint.{Paint}
-use Rattle.span_lanes.specs.declared.span.Paint.TheVariants.{TexturedTri}
+use Rattle.span_lanes.specs.declared.span.Paint.TheVariants.{Shaded, TexturedTri}
 
 -- the texel coordinates of a triangle
 pub record AreCoordRamps (tri : Corners) (coord_planes : CoordRamps) : Type 0 where
@@ -23,12 +23,13 @@ abbrev pub AreCoordRampsOf : Paint → CoordRamps → Type 0
 AreCoordRampsOf (TexturedTri tri texture) coord_planes = AreCoordRamps tri coord_planes
 AreCoordRampsOf paint coord_planes = ⊥
 
--- the colour channels of such a paint
+-- the colour channels of a paint that is a triangle
 abbrev pub AreColorsOf : Paint → ColorRamps → Type 0
+AreColorsOf (Shaded tri) colors = AreColorRamps tri colors
 AreColorsOf (TexturedTri tri texture) colors = AreColorRamps tri colors
 AreColorsOf paint colors = ⊥
 
--- coordinates and channels of such a paint
+-- coordinates and channels of a paint that is a textured triangle
 pub record AreAttributeRampsOf (paint : Paint) (ramps : AttributeRamps) : Type 0 where
   pub coord_planes : AreCoordRampsOf paint ramps.coord_planes
   pub colors : AreColorsOf paint ramps.colors

@@ -1,7 +1,9 @@
 -- Paints that are set up for drawing.
 use Rattle.std.specs.Prelude.{ℕ, ◌≡◌, None}
 use Rattle.span_lanes.specs.declared.row_drawer.PaintSetup.{PaintSetup}
-use Rattle.span_lanes.specs.declared.row_drawer.PaintSetup.TheVariants.{Solid, Untextured, Tri, ContiguousTri, Row}
+use Rattle.span_lanes.specs.declared.row_drawer.PaintSetup.TheVariants.{Solid, One, Gouraud, Tri, ContiguousTri, Row}
+use Rattle.span_lanes.specs.declared.shading.Shading.TheVariants.{OneColor}
+use Rattle.span_lanes.specs.AttributeRamps.{AreColorsOf}
 use Rattle.span_lanes.specs.Lanes.{IsSolid}
 use Rattle.span_lanes.specs.Paints.{row_paint}
 use Rattle.span_lanes.specs.SpanDrawer.{IsShadingFor, state_span}
@@ -14,7 +16,8 @@ use Rattle.texel_lanes.specs.Texture.{IsTexture}
 -- the values that all spans of a paint and a brush share
 abbrev pub IsPaintSetup : DrawState → PaintSetup → Type 0
 IsPaintSetup state (Solid h) = (texture_of state.paint ≡ None) × ((x y n : ℕ) → IsSolid (state_span state x y n) h)
-IsPaintSetup state (Untextured shading) = (texture_of state.paint ≡ None) × IsShadingFor state.paint shading
+IsPaintSetup state (One color) = (texture_of state.paint ≡ None) × IsShadingFor state.paint (OneColor color)
+IsPaintSetup state (Gouraud ramps) = (texture_of state.paint ≡ None) × AreColorsOf state.paint ramps
 IsPaintSetup state (Tri setup) = IsSetupOf state setup
 IsPaintSetup state (ContiguousTri setup) =
     IsSetupOf state setup × (IsTexture setup.texture → AreContiguous setup.tri setup.texture)

@@ -1,5 +1,5 @@
 -- A paint and a brush for many spans.
-use Rattle.std.specs.Prelude.{ℕ, List, Option, None, IfSome, ◌≡◌, ◌≤◌, ◌+◌, length, pos, IsTrue}
+use Rattle.std.specs.Prelude.{ℕ, Option, None, IfSome, ◌≡◌, ◌≤◌, ◌+◌, length, pos, IsTrue}
 use Rattle.edge_walk.specs.Plane.{IsPlane}
 use Rattle.edge_walk.specs.Triangle.{Corners, is_inside}
 use Rattle.span_lanes.specs.declared.tex_coords.CoordPlanes.{CoordPlanes}

@@ -69,6 +69,15 @@ pub(crate) fn coord_ramps_of(tri: &Tri, divisor: &Divisor) -> CoordRamps
     coord_ramps_with(&tri.attribute_setup(divisor))
 }
 
+// Returns the colour channels of a triangle. `divisor` must be `tri.area_divisor()`.
+#[inline(always)]
+pub(crate) fn color_ramps_of(tri: &Tri, divisor: &Divisor) -> ColorRamps
+    requires divisor { divisor.now ≡ divisor_for tri.now }
+    ensures { AreColorRamps tri.now result }
+{
+    color_ramps_with(&tri.attribute_setup(divisor))
+}
+
 // Returns all five attributes of a triangle. `divisor` must be `tri.area_divisor()`.
 #[inline(always)]
 pub(crate) fn attribute_ramps_of(tri: &Tri, divisor: &Divisor) -> AttributeRamps

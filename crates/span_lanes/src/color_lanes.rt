@@ -7,7 +7,7 @@ ghost use Rattle.span_lanes.specs.Lanes.{AreChannels, HasColors, AreDitherLanes,
 
 use crate::Span;
 use crate::span::Chunk;
-use blend_dither::{modulate_lanes, tone_lanes};
+use blend_dither::{modulate_lanes, tone_lanes, undithered_modulate_lanes};
 use px_num::lanes::splat;
 use std::simd::prelude::*;
 
@@ -132,6 +132,19 @@ pub(crate) fn modulated_by(texels: u16x16, colors: ColorLanes, dither_lanes: Dit
         colors.blue,
         dither_lanes.lanes,
     )
+}
+
+// Returns sixteen texels, modulated by these colours, without dither.
+#[inline(always)]
+pub(crate) fn undithered_by(texels: u16x16, colors: ColorLanes) -> u16x16
+    requires texels { length texels ≡ 16 }
+    requires channels { AreChannels colors.red × AreChannels colors.green × AreChannels colors.blue }
+    ensures long { length result ≡ 16 }
+    ensures value { EachLane (λ i. slice_index result i
+        ≡ modulated_of (slice_index texels i)
+        (slice_index colors.red i) (slice_index colors.green i) (slice_index colors.blue i) (pos 0)) }
+{
+    undithered_modulate_lanes(texels, colors.red, colors.green, colors.blue)
 }
 
 // Computes the colours of a span's cells, chunk by chunk.

@@ -5,9 +5,9 @@
 // not forced. In brackets: a workload of the benchmark.
 //
 // - `Solid`, in `draw_ready` and `draw_solid`: all cells become one halfword, and nothing is read. [triangle flat]
-// - `Untextured`, five in `draw_flat`, for one colour: one for each blending mode [rectangle B+F], and one for pixels
+// - `FlatCells`, five in `draw_flat`, for one colour: one for each blending mode [rectangle B+F], and one for pixels
 //   that are tested or dithered, or blended with a forced bit 15.
-// - `Untextured`, two in `draw_gouraud`: three channels that change along the row, opaque or not. [triangle gouraud]
+// - `GouraudCells`, two in `draw_gouraud`: the colours of a triangle, opaque or not. [triangle gouraud]
 // - `CachedClut<TexelRun>`, in `CachedClutMethod::draw_row`: a cached CLUT and opaque pixels. The loop is inlined
 //   into the loop over the rows. [triangle 4-bit modulated]
 // - `CachedClut<&CoordRamps>` and `Shaded<&CoordRamps>`, in `draw_flat_texels`: texels by coordinates under one colour,
@@ -44,7 +44,7 @@ use crate::texel_hazards::is_run_hazard_free;
 use crate::texel_rows::TexelRow;
 use crate::texel_run::rectangle_row_run;
 use crate::texel_run_rows::sampler_of;
-use crate::untextured_rows::{Solid, draw_untextured};
+use crate::untextured_rows::{Solid, draw_flat, draw_gouraud};
 use std::sync::ledger::Ledger;
 use vram_store::{Steps, Vram};
 
@@ -114,7 +114,8 @@ pub(crate) fn draw_ready<L: Ledger>(
 {
     match ready {
         PaintSetup::Solid { h } => draw_chunks(vram, span, &Solid { h: *h }, steps),
-        PaintSetup::Untextured { shading } => draw_untextured(vram, span, shading, steps),
+        PaintSetup::One { color } => draw_flat(vram, span, *color, steps),
+        PaintSetup::Gouraud { ramps } => draw_gouraud(vram, span, ramps, steps),
         PaintSetup::Tri { setup } => draw_tri(vram, span, setup, last, steps),
         PaintSetup::ContiguousTri { setup } => draw_contiguous_tri(vram, span, setup, last, steps),
         PaintSetup::Row { row } => draw_row(vram, span, row, last, steps),

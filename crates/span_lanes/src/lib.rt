@@ -31,6 +31,7 @@ mod row_drawer;
 mod rows_by_ramps;
 mod rows_hazard_free;
 mod sampler;
+mod shaded;
 mod shading;
 mod span;
 mod span_drawer;

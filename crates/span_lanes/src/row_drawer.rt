@@ -1,8 +1,10 @@
 // What draws runs of cells, row by row, and the setup of a paint for all its spans.
 ghost use Rattle.span_lanes.specs.PaintSetup.{IsPaintSetup};
-ghost use Rattle.span_lanes.specs.declared.span.Paint.TheVariants.{Flat, TexturedTri};
+ghost use Rattle.span_lanes.specs.declared.span.Brush.{Brush};
+ghost use Rattle.span_lanes.specs.declared.span.Paint.TheVariants.{Flat, Shaded, TexturedTri};
 
-use crate::shading::{Shading, triangle_shading};
+use crate::attribute_ramps::{ColorRamps, color_ramps_of};
+use crate::shading::one_color;
 use crate::texel_rows::TexelRow;
 use crate::triangle_drawer::is_contiguous;
 use crate::triangle_setup::{TriangleSetup, triangle_setup_of};
@@ -46,8 +48,10 @@ pub trait RowDrawer: Drop {
 pub(crate) enum PaintSetup {
     // all cells become one halfword, whatever their values
     Solid { h: u16 },
-    // colours without a texture
-    Untextured { shading: Shading },
+    // one colour without a texture
+    One { color: u32 },
+    // the colours of a triangle without a texture
+    Gouraud { ramps: ColorRamps },
     // a textured triangle whose texels are read by their coordinates
     Tri { setup: TriangleSetup },
     // a textured triangle whose texels are contiguous in each row
@@ -62,8 +66,18 @@ fn flat_setup(color: u32, brush: &Brush) -> PaintSetup
 {
     match solid_color(brush, color) {
         Some(h) => PaintSetup::Solid { h },
-        None => PaintSetup::Untextured {
-            shading: Shading::OneColor { color },
+        None => PaintSetup::One { color },
+    }
+}
+
+// Returns the setup of the colours of a triangle.
+fn shaded_setup(tri: &Tri) -> PaintSetup
+    ensures { (brush : Brush) → IsPaintSetup (record { paint = Shaded tri.now; brush = brush }) result }
+{
+    match one_color(tri) {
+        Some(color) => PaintSetup::One { color },
+        None => PaintSetup::Gouraud {
+            ramps: color_ramps_of(tri, &tri.area_divisor()),
         },
     }
 }
@@ -86,9 +100,7 @@ pub(crate) fn paint_setup_of(paint: &Paint, brush: &Brush) -> PaintSetup
 {
     match paint {
         Paint::Flat { color } => flat_setup(*color, brush),
-        Paint::Shaded { tri } => PaintSetup::Untextured {
-            shading: triangle_shading(tri, &tri.area_divisor()),
-        },
+        Paint::Shaded { tri } => shaded_setup(tri),
         Paint::TexturedTri { tri, texture } => tri_setup(tri, texture, brush),
         Paint::TexturedRow {
             color,

@@ -11,8 +11,9 @@ ghost use Rattle.span_lanes.specs.Lanes.{IsDrawnOver};
 use crate::Texture;
 use crate::blended::blended_of_texels;
 use crate::chunk_loop::{ChunkDrawer, store_chunk};
-use crate::modulated::{ColoredClut, ModulatedTexels, modulated_texels, texels_by_index};
+use crate::modulated::{ColoredClut, ModulatedTexels, texels_by_index};
 use crate::sampler::{IndexSampler, Sampler};
+use crate::shaded::shaded_texels;
 use crate::shading::RowShading;
 use crate::span::Chunk;
 use px_num::lanes::{splat, where_equal};
@@ -97,7 +98,7 @@ pub(crate) fn draw_shaded<L: Ledger>(
     ensures others { AgreesApart (chunk_place chunk.now.span.now chunk.now.first) chunk.now.k vram.old vram.new }
     ensures cost { steps.new ≤ steps.old + 2 }
 {
-    let modulated = modulated_texels(
+    let modulated = shaded_texels(
         texture,
         &shading.row_colors,
         shading.dither_lanes,

@@ -1,17 +1,20 @@
 // Chunks without a texture, all their lanes at once.
-ghost use Rattle.std.specs.Prelude.{◌≡◌, ◌≤◌, ◌<◌, ◌+◌, ◌^◌, false, pos, length, slice_index, slice_index_or};
+ghost use Rattle.std.specs.Prelude.{◌≡◌, ◌≤◌, ◌<◌, ◌+◌, ◌^◌, false, pos, None, length, slice_index, slice_index_or};
+ghost use Rattle.blend_dither.specs.Color.{tone_of};
 ghost use Rattle.px_num.specs.Lanes.{EachLane};
+ghost use Rattle.span_lanes.specs.declared.shading.RowColors.TheVariants.{One};
+ghost use Rattle.span_lanes.specs.AttributeRamps.{AreColorsOf};
 ghost use Rattle.span_lanes.specs.Chunk.{HasChunk};
-ghost use Rattle.span_lanes.specs.Draws.{IsChunk};
-ghost use Rattle.span_lanes.specs.Shade.{blended_if};
-ghost use Rattle.span_lanes.specs.RowColors.{color_at_cell};
-ghost use Rattle.span_lanes.specs.Lanes.{AreDitherLanes, tone_with};
-ghost use Rattle.span_lanes.specs.Untextured.{CanDrawUntextured};
+ghost use Rattle.span_lanes.specs.Draws.{CanDraw, IsChunk};
+ghost use Rattle.span_lanes.specs.Shade.{blended_if, IsSpan, texture_of};
+ghost use Rattle.span_lanes.specs.RowColors.{AreRowColors};
+ghost use Rattle.span_lanes.specs.Lanes.{AreChannels, AreDitherLanes, AreDitherLanesAt, tone_with};
+ghost use Rattle.span_lanes.specs.Untextured.{AreTones};
 
 use crate::Span;
+use crate::attribute_ramps::ColorRamps;
 use crate::blended::back_of;
-use crate::color_lanes::{DitherLanes, tones_of};
-use crate::shading::{RowColors, color_lanes_of};
+use crate::color_lanes::{ColorLanes, ColorSource, DitherLanes, one_color, tones_of};
 use crate::span::Chunk;
 use blend_dither::{blend_lanes, tone, undithered_tone_lanes};
 use px_num::lanes::splat;
@@ -37,57 +40,68 @@ fn blend_lanes_if(semi: bool, mode: u8, back: u16x16, front: u16x16) -> u16x16
     }
 }
 
-// Returns the dithered 15-bit colours of the sixteen cells from cell `first` on.
+// Returns the 15-bit colours of sixteen cells of one colour. Without `dither`, all dither offsets must be 0, and the
+// colour is computed only once.
 #[inline(always)]
-fn dithered_tones(row_colors: &RowColors, dither_lanes: DitherLanes, first: u16) -> u16x16
-    requires dither_lanes { AreDitherLanes dither_lanes.lanes }
-    ensures long { length result ≡ 16 }
-    ensures low { EachLane (λ i. slice_index result i < 2 ^ 15) }
-    ensures value { EachLane (λ j. slice_index result j
-        ≡ tone_with (color_at_cell row_colors.now first j) (slice_index_or dither_lanes.lanes j (pos 0))) }
-{
-    tones_of(color_lanes_of(row_colors, first), dither_lanes)
-}
-
-// Returns the 15-bit colours of the sixteen cells from cell `first` on, without dither, from three channels.
-#[inline(always)]
-fn gouraud_tones(row_colors: &RowColors, first: u16) -> u16x16
-    ensures long { length result ≡ 16 }
-    ensures low { EachLane (λ i. slice_index result i < 2 ^ 15) }
-    ensures value { EachLane (λ j. slice_index result j ≡ tone_with (color_at_cell row_colors.now first j) (pos 0)) }
-{
-    let colors = color_lanes_of(row_colors, first);
-    undithered_tone_lanes(colors.red, colors.green, colors.blue)
-}
-
-// As [`gouraud_tones`]. One colour is computed only once.
-#[inline(always)]
-fn undithered_tones(row_colors: &RowColors, first: u16) -> u16x16
-    ensures long { length result ≡ 16 }
-    ensures low { EachLane (λ i. slice_index result i < 2 ^ 15) }
-    ensures value { EachLane (λ j. slice_index result j ≡ tone_with (color_at_cell row_colors.now first j) (pos 0)) }
-{
-    match row_colors {
-        RowColors::One { color } => splat(tone(*color, 0)),
-        RowColors::Lines { .. } => gouraud_tones(row_colors, first),
-    }
-}
-
-// Returns the 15-bit colours of the sixteen cells from cell `first` on. Without `dither`, all dither offsets must be 0.
-#[inline(always)]
-fn row_tones(row_colors: &RowColors, dither: bool, dither_lanes: DitherLanes, first: u16) -> u16x16
+fn flat_lanes(color: u32, dither: bool, dither_lanes: DitherLanes) -> u16x16
     requires dither_lanes { AreDitherLanes dither_lanes.lanes }
     requires none { dither ≡ false → EachLane (λ i. slice_index_or dither_lanes.lanes i (pos 0) ≡ pos 0) }
     ensures long { length result ≡ 16 }
     ensures low { EachLane (λ i. slice_index result i < 2 ^ 15) }
     ensures value { EachLane (λ j. slice_index result j
-        ≡ tone_with (color_at_cell row_colors.now first j) (slice_index_or dither_lanes.lanes j (pos 0))) }
+        ≡ tone_with color (slice_index_or dither_lanes.lanes j (pos 0))) }
 {
     if dither {
-        dithered_tones(row_colors, dither_lanes, first)
+        tones_of(one_color(color), dither_lanes)
     } else {
-        undithered_tones(row_colors, first)
+        splat(tone(color, 0))
     }
+}
+
+// Returns one colour as the 15-bit colours of a chunk's cells.
+#[inline(always)]
+pub(crate) fn flat_tones(color: u32, dither_lanes: DitherLanes, chunk: &Chunk) -> u16x16
+    requires span { IsSpan chunk.now.span.now }
+    requires chunk { IsChunk chunk.now }
+    requires offsets { AreDitherLanesAt chunk.now.span.now.brush.dither chunk.now.span.now.x chunk.now.span.now.y
+        dither_lanes.lanes }
+    requires colors { AreRowColors chunk.now.span.now.paint chunk.now.span.now.x chunk.now.span.now.y
+        chunk.now.span.now.n (One color) }
+    ensures { AreTones chunk.now result }
+{
+    flat_lanes(color, chunk.span.brush.dither, dither_lanes)
+}
+
+// Returns the 15-bit colours of sixteen cells from their three channels. Without `dither`, all dither offsets must be 0.
+#[inline(always)]
+fn gouraud_lanes(colors: ColorLanes, dither: bool, dither_lanes: DitherLanes) -> u16x16
+    requires channels { AreChannels colors.red × AreChannels colors.green × AreChannels colors.blue }
+    requires dither_lanes { AreDitherLanes dither_lanes.lanes }
+    requires none { dither ≡ false → EachLane (λ i. slice_index_or dither_lanes.lanes i (pos 0) ≡ pos 0) }
+    ensures long { length result ≡ 16 }
+    ensures low { EachLane (λ i. slice_index result i < 2 ^ 15) }
+    ensures value { EachLane (λ i. slice_index result i
+        ≡ tone_of (slice_index colors.red i) (slice_index colors.green i) (slice_index colors.blue i)
+        (slice_index_or dither_lanes.lanes i (pos 0))) }
+{
+    if dither {
+        tones_of(colors, dither_lanes)
+    } else {
+        undithered_tone_lanes(colors.red, colors.green, colors.blue)
+    }
+}
+
+// Returns the 15-bit colours of a chunk's cells. `ramps` must be those of its paint.
+#[inline(always)]
+pub(crate) fn gouraud_tones(ramps: &ColorRamps, dither_lanes: DitherLanes, chunk: &Chunk) -> u16x16
+    requires span { IsSpan chunk.now.span.now }
+    requires chunk { IsChunk chunk.now }
+    requires offsets { AreDitherLanesAt chunk.now.span.now.brush.dither chunk.now.span.now.x chunk.now.span.now.y
+        dither_lanes.lanes }
+    requires colors { AreColorsOf chunk.now.span.now.paint ramps.now }
+    ensures { AreTones chunk.now result }
+{
+    gouraud_lanes(ramps.colors(chunk), chunk.span.brush.dither, dither_lanes)
 }
 
 // Returns the values that a chunk's cells become in its first `chunk.k` lanes. All are computed from video memory
@@ -95,24 +109,19 @@ fn row_tones(row_colors: &RowColors, dither: bool, dither_lanes: DitherLanes, fi
 #[inline(always)]
 pub(crate) fn untextured_lanes<L: Ledger>(
     vram: &Vram,
-    row_colors: &RowColors,
-    dither_lanes: DitherLanes,
+    tones: u16x16,
     chunk: &Chunk,
     steps: &mut Steps<L>,
 ) -> u16x16
-    requires tones { CanDrawUntextured chunk.now.span.now row_colors.now dither_lanes.lanes vram.now }
+    requires can { CanDraw chunk.now.span.now vram.now }
+    requires untextured { texture_of chunk.now.span.now.paint ≡ None }
+    requires tones { AreTones chunk.now tones }
     requires chunk { IsChunk chunk.now }
     ensures long { length result ≡ 16 }
     ensures lanes { HasChunk chunk.now vram.now result }
     ensures cost { steps.new ≤ steps.old + 1 }
 {
     let back = back_of(vram, chunk, steps);
-    let tones = row_tones(
-        row_colors,
-        chunk.span.brush.dither,
-        dither_lanes,
-        chunk.first,
-    );
     let plotted = blend_lanes_if(chunk.span.brush.semi, chunk.span.brush.mode, back, tones);
     over_lanes(
         chunk.span.brush.mask,

@@ -1,118 +1,113 @@
 // Spans without a texture.
 ghost use Rattle.std.specs.Prelude.{◌≡◌, None, ℕ, ◌&&◌, ◌||◌, not, IfSome};
 ghost use Rattle.span_lanes.specs.Draws.{CanDraw, DrawsSpan, at_stage};
-ghost use Rattle.span_lanes.specs.Lanes.{AreDitherLanesAt, IsSolid};
+ghost use Rattle.span_lanes.specs.AttributeRamps.{AreColorsOf};
+ghost use Rattle.span_lanes.specs.Lanes.{IsSolid};
 ghost use Rattle.span_lanes.specs.Shade.{IsSpan, texture_of, LiesIn};
-ghost use Rattle.span_lanes.specs.declared.shading.RowColors.TheVariants.{One, Lines};
-ghost use Rattle.span_lanes.specs.SpanDrawer.{IsShadingFor, DrawsCells, HasHalfword};
+ghost use Rattle.span_lanes.specs.declared.shading.RowColors.TheVariants.{One};
+ghost use Rattle.span_lanes.specs.SpanDrawer.{DrawsCells, HasHalfword};
 ghost use Rattle.span_lanes.specs.RowColors.{AreRowColors};
 ghost use Rattle.vram_store.specs.Vram.{height_of};
 ghost use Rattle.vram_store.specs.Plot.{is_testing};
 ghost use Rattle.span_lanes.specs.declared.span.Paint.TheVariants.{Flat};
 
+use crate::attribute_ramps::ColorRamps;
 use crate::blended::reads_back;
 use crate::chunk_loop::{ChunkDrawer, draw_by_brush, draw_chunks, store_chunk};
 use crate::color_lanes::{DitherLanes, dither_lanes_of};
 use crate::mode_loops::draw_by_mode;
-use crate::shading::{RowColors, Shading, row_colors_of};
 use crate::span::Chunk;
-use crate::untextured_lanes::untextured_lanes;
+use crate::untextured_lanes::{flat_tones, gouraud_tones, untextured_lanes};
 use crate::{Brush, Paint, Span};
 use blend_dither::tone;
-use edge_walk::RowLine;
 use px_num::lanes::splat;
 use std::sync::ledger::Ledger;
 use vram_store::mask::force;
 use vram_store::{Steps, Vram};
 
-// Draws cells without a texture. They read no cell except their own.
+// Draws cells of one colour without a texture. They read no cell except their own.
 #[derive(Clone, Copy)]
-struct Untextured {
-    row_colors: RowColors,
+struct FlatCells {
+    color: u32,
     dither_lanes: DitherLanes,
 }
 
-impl ChunkDrawer for Untextured {
-    ghost use Rattle.span_lanes.specs.Untextured.{CanDrawUntextured};
+impl ChunkDrawer for FlatCells {
+    ghost use Rattle.span_lanes.specs.Untextured.{CanDrawFlat};
 
-    ghost serves = { λ c s m. CanDrawUntextured s c.row_colors c.dither_lanes.lanes m };
+    ghost serves = { λ c s m. CanDrawFlat s c.color c.dither_lanes.lanes m };
 
     ghost spared = { λ c. 0 };
 
+    ghost can = { λ c s m serves. serves.span.can };
+
     #[inline(always)]
     fn draw_chunk<L: Ledger>(&self, vram: &mut Vram, chunk: &Chunk, steps: &mut Steps<L>) {
-        let lanes = untextured_lanes(vram, &self.row_colors, self.dither_lanes, chunk, steps);
+        let tones = flat_tones(self.color, self.dither_lanes, chunk);
+        let lanes = untextured_lanes(vram, tones, chunk, steps);
         store_chunk(vram, chunk, lanes, steps);
     }
-
-    ghost can = { λ c s m serves. serves.can };
 }
 
-// Returns the chunk drawer of a span without a texture, with these colours.
-#[inline(always)]
-fn untextured_by(span: &Span, row_colors: RowColors) -> Untextured
-    requires span { IsSpan span.now }
-    ensures row_colors { result.row_colors ≡ row_colors }
-    ensures dither_lanes { AreDitherLanesAt span.now.brush.dither span.now.x span.now.y result.dither_lanes.lanes }
-{
-    Untextured {
-        row_colors,
-        dither_lanes: dither_lanes_of(span.brush.dither, span.x, span.y),
+// Draws cells of the colours of a triangle, without a texture. They read no cell except their own.
+#[derive(Clone, Copy)]
+struct GouraudCells<'a> {
+    ramps: &'a ColorRamps,
+    dither_lanes: DitherLanes,
+}
+
+impl ChunkDrawer for GouraudCells<'_> {
+    ghost use Rattle.span_lanes.specs.Untextured.{CanDrawGouraud};
+
+    ghost serves = { λ c s m. CanDrawGouraud s c.ramps.now c.dither_lanes.lanes m };
+
+    ghost spared = { λ c. 0 };
+
+    ghost can = { λ c s m serves. serves.span.can };
+
+    #[inline(always)]
+    fn draw_chunk<L: Ledger>(&self, vram: &mut Vram, chunk: &Chunk, steps: &mut Steps<L>) {
+        let tones = gouraud_tones(self.ramps, self.dither_lanes, chunk);
+        let lanes = untextured_lanes(vram, tones, chunk, steps);
+        store_chunk(vram, chunk, lanes, steps);
     }
 }
 
 // Draws a span of one colour without a texture.
 #[inline(never)]
-fn draw_flat<L: Ledger>(vram: &mut Vram, span: &Span, color: u32, steps: &mut Steps<L>)
+pub(crate) fn draw_flat<L: Ledger>(vram: &mut Vram, span: &Span, color: u32, steps: &mut Steps<L>)
     requires can { CanDraw span.now vram.old }
     requires untextured { texture_of span.now.paint ≡ None }
     requires row_colors { AreRowColors span.now.paint span.now.x span.now.y span.now.n (One color) }
     ensures drawn { DrawsSpan span.now 0 (at_stage vram.old steps.old) (at_stage vram.new steps.new) }
 {
-    draw_by_mode(
-        vram,
-        span,
-        &untextured_by(span, RowColors::One { color }),
-        steps,
-    );
+    let dither_lanes = dither_lanes_of(span.brush.dither, span.x, span.y);
+    let cells = FlatCells {
+        color,
+        dither_lanes,
+    };
+    draw_by_mode(vram, span, &cells, steps);
 }
 
-// Draws a span without a texture whose colours change along the row.
+// Draws a span of a triangle's colours without a texture. `ramps` must be those of its paint.
 #[inline(never)]
-fn draw_gouraud<L: Ledger>(
+pub(crate) fn draw_gouraud<L: Ledger>(
     vram: &mut Vram,
     span: &Span,
-    red: RowLine,
-    green: RowLine,
-    blue: RowLine,
+    ramps: &ColorRamps,
     steps: &mut Steps<L>,
 )
     requires can { CanDraw span.now vram.old }
     requires untextured { texture_of span.now.paint ≡ None }
-    requires row_colors { AreRowColors span.now.paint span.now.x span.now.y span.now.n (Lines red green blue) }
+    requires colors { AreColorsOf span.now.paint ramps.now }
     ensures drawn { DrawsSpan span.now 0 (at_stage vram.old steps.old) (at_stage vram.new steps.new) }
 {
-    let row_colors = RowColors::Lines { red, green, blue };
-    draw_by_brush(vram, span, &untextured_by(span, row_colors), steps);
-}
-
-// Draws a span without a texture. `shading` must be that of its paint.
-#[inline(always)]
-pub(crate) fn draw_untextured<L: Ledger>(
-    vram: &mut Vram,
-    span: &Span,
-    shading: &Shading,
-    steps: &mut Steps<L>,
-)
-    requires can { CanDraw span.now vram.old }
-    requires untextured { texture_of span.now.paint ≡ None }
-    requires shading { IsShadingFor span.now.paint shading.now }
-    ensures drawn { DrawsSpan span.now 0 (at_stage vram.old steps.old) (at_stage vram.new steps.new) }
-{
-    match row_colors_of(span, shading) {
-        RowColors::One { color } => draw_flat(vram, span, color, steps),
-        RowColors::Lines { red, green, blue } => draw_gouraud(vram, span, red, green, blue, steps),
-    }
+    let dither_lanes = dither_lanes_of(span.brush.dither, span.x, span.y);
+    let cells = GouraudCells {
+        ramps,
+        dither_lanes,
+    };
+    draw_by_brush(vram, span, &cells, steps);
 }
 
 // Returns whether a colour becomes the same halfword in all cells: pixels are not blended, tested or dithered.
