@@ -72,7 +72,8 @@ pub(crate) fn flat_tones(color: u32, dither_lanes: DitherLanes, chunk: &Chunk) -
     flat_lanes(color, chunk.span.brush.dither, dither_lanes)
 }
 
-// Returns the 15-bit colours of sixteen cells from their three channels. Without `dither`, all dither offsets must be 0.
+// Returns the 15-bit colours of sixteen cells from their three channels. Without `dither`, all dither offsets must be
+// 0.
 #[inline(always)]
 fn gouraud_lanes(colors: ColorLanes, dither: bool, dither_lanes: DitherLanes) -> u16x16
     requires channels { AreChannels colors.red × AreChannels colors.green × AreChannels colors.blue }
