@@ -6,7 +6,7 @@ use Rattle.dev_io.specs.Device.{prepended, IsAtEnd}
 use Rattle.dev_io.proofs.Appended.{appended-nil}
 use Rattle.dev_io.proofs.Parts.{taken_on}
 use Rattle.gathered_out.specs.Pieces.{Piece}
-use Rattle.gathered_out.specs.Puts.{holding}
+use Rattle.gathered_out.specs.Puts.{IsWritten, holding}
 use Rattle.gathered_out.proofs.Buffers.{Buffers, buffers_more, buffers_none, buffers_written}
 use Rattle.gpu_capture.specs.Capture.{Captured, ended, then_events, records, capture}
 use Rattle.gpu_capture.proofs.Needed.{says_on}
@@ -349,6 +349,37 @@ pub record Paused (mode : Mode) (script : List ℕ → Script) (before now : Str
   pub reached : Reaches mode script before now buffered rig (GoesOn mode script since p)
   pub near : p.offset < since + 4096
 
+-- All that was buffered was written.
+flushed_now : (mode : Mode) (script : List ℕ → Script) (before now : Streams) (buffered : List Piece) (rig : RigState)
+    (Says Said : Replay → List ℕ → List ℕ → List Event → Type 0) (held : Option (List ℕ))
+    (was : Reaches mode script before now buffered rig Says)
+    → IsWritten now.held held buffered → Said was.replay was.taken [] was.events
+    → Reaches mode script before (record now { held = held }) [] rig Said
+flushed_now mode script before now buffered rig Says Said held was written says =
+    let all = lines_of mode was.replay in
+    record {
+      taken = was.taken;
+      bytes = was.bytes;
+      needed = was.needed;
+      events = was.events;
+      replay = was.replay;
+      flushed = was.taken;
+      after = [];
+      taken_is = sym (append-nil was.taken);
+      says = says;
+      stands = was.stands;
+      buffers = buffers_none (WasDue mode script was.events was.taken was.taken) before.held all held
+          (buffers_written (WasDue mode script was.events was.flushed was.taken) before.held all now.held held buffered
+          was.buffers written);
+      free = inr refl;
+      heard = was.heard;
+      cost = was.cost;
+    }
+
+-- The reader has read nothing since the flush.
+lies_here : (p : Progress) → 1 ≤ p.version → LiesAfter p.offset p []
+lies_here p started = record { at = p; known = started; offset = refl; events = []; says = λ rest. refl }
+
 pub pauses_on : (mode : Mode) (script : List ℕ → Script) (before now : Streams) (buffered new : List Piece)
     (since at : ℕ) (rig : RigState) (p : Progress) (held : Option (List ℕ))
     → Reaches mode script before now buffered rig (GoesOn mode script since p) → 1 ≤ p.version
@@ -358,37 +389,36 @@ pauses_on mode script before now buffered new since at rig p held was started (i
   reached = rw (on.0, on.2, on.3) was;
   near = let e = on.0 in let lt = on.1 in omega (arith, e, lt);
 }
-pauses_on mode script before now buffered new since at rig p held was started (inr written) =
-    let all = lines_of mode was.replay in
-    let due = WasDue mode script was.events was.taken was.taken in
-    let e = written.0 in
-    record {
-      reached = record {
-        taken = was.taken;
-        bytes = was.bytes;
-        needed = was.needed;
-        events = was.events;
-        replay = was.replay;
-        flushed = was.taken;
-        after = [];
-        taken_is = sym (append-nil was.taken);
-        says = record {
-          plays_on = was.says.plays_on;
-          read = was.says.read;
-          lies = record { at = p; known = started; offset = sym e; events = []; says = λ rest. refl };
-          few = λ is. omega arith;
-        };
-        stands = was.stands;
-        buffers = rw written.1
-            (buffers_none due before.held all held
-            (buffers_written (WasDue mode script was.events was.flushed was.taken) before.held all now.held held
-            buffered was.buffers written.2));
-        free = inr written.1;
-        heard = was.heard;
-        cost = was.cost;
-      };
-      near = omega (arith, e);
-    }
+pauses_on mode script before now buffered new since at rig p held was started (inr written) = record {
+  reached = rw (written.0, written.1)
+      (flushed_now mode script before now buffered rig (GoesOn mode script since p) (GoesOn mode script p.offset p) held
+      was written.2 (record {
+        plays_on = was.says.plays_on;
+        read = was.says.read;
+        lies = lies_here p started;
+        few = λ is. omega arith;
+      }));
+  near = let e = written.0 in omega (arith, e);
+}
+
+-- the same if an event was read that is not played yet
+pub event_pauses : (mode : Mode) (script : List ℕ → Script) (before now : Streams) (buffered new : List Piece)
+    (since at : ℕ) (rig : RigState) (p : Progress) (event : Event) (held : Option (List ℕ))
+    → Awaits mode script before now buffered since rig p (Ok event) → 1 ≤ p.version
+    → Pauses p.offset since (holding now.held buffered) (holding held new) at
+    → Awaits mode script before (record now { held = held }) new at rig p (Ok event)
+event_pauses mode script before now buffered new since at rig p event held was started (inl on) =
+    rw (on.0, on.2, on.3) was
+event_pauses mode script before now buffered new since at rig p event held was started (inr written) =
+    rw (written.0, written.1)
+    (flushed_now mode script before now buffered rig (Answers mode script since p now.left (Ok event))
+    (Answers mode script p.offset p now.left (Ok event)) held was written.2 (record {
+      says = was.says.says;
+      read = was.says.read;
+      costs = was.says.costs;
+      lies = lies_here p started;
+      few = λ is. omega arith;
+    }))
 
 -- the same for an equal result of the reader
 pub awaits_is : (mode : Mode) (script : List ℕ → Script) (before now : Streams) (buffered : List Piece) (since : ℕ)

@@ -20,7 +20,7 @@ use Rattle.gpu_taps.specs.Tally.{Reading}
 use Rattle.event_play.specs.Lines.{IsBuffered, MayBuffer, lines_cost}
 use Rattle.event_play.specs.Listing.{ArePut, pieces_for}
 use Rattle.event_play.specs.Out.{lines_of}
-use Rattle.event_play.specs.PlayedWords.{after_word, after_words, word_notes, IsTold, AreUnwatched}
+use Rattle.event_play.specs.PlayedWords.{after_word, after_words, word_notes, IsTold, IsUnwatched}
 use Rattle.event_play.specs.Playing.{AreAllNeeded, IsShort, Follows, plays}
 use Rattle.event_play.specs.Replay.{Replay, Script, replayed}
 use Rattle.event_play.specs.RigState.{RigState}
@@ -81,29 +81,24 @@ all_needed script t old new before now xs words goes was takes part more is some
 
 -- ---- their lines
 
--- The words have no lines: the mode does not buffer any, or there are no words.
-abbrev AreQuiet : Mode → List ℕ → Type 0
-AreQuiet Listing words = words ≡ []
-AreQuiet (Pixel cell) words = words ≡ []
-AreQuiet mode words = Unit {0}
-
-quiet_lines : (mode : Mode) (t : Replay) (words : List ℕ) → AreQuiet mode words
+-- In a mode that buffers no lines, words have none.
+quiet_lines : (mode : Mode) (t : Replay) (words : List ℕ) → (IsBuffered mode → ⊥)
     → lines_of mode (after_words t words) ≡ lines_of mode t
 quiet_lines mode t [] quiet = refl
-quiet_lines Listing t (word ∷ words) quiet = absurd cc
-quiet_lines (Pixel cell) t (word ∷ words) quiet = absurd cc
-quiet_lines Words t (word ∷ words) quiet = quiet_lines Words (after_word t word) words tt
+quiet_lines Listing t (word ∷ words) quiet = absurd (quiet tt)
+quiet_lines (Pixel cell) t (word ∷ words) quiet = absurd (quiet tt)
+quiet_lines Words t (word ∷ words) quiet = quiet_lines Words (after_word t word) words quiet
 quiet_lines Vram t (word ∷ words) quiet = refl
 quiet_lines Shot t (word ∷ words) quiet = refl
 quiet_lines Report t (word ∷ words) quiet = refl
-quiet_lines (Frames at) t (word ∷ words) quiet = quiet_lines (Frames at) (after_word t word) words tt
-quiet_lines (Sums at) t (word ∷ words) quiet = quiet_lines (Sums at) (after_word t word) words tt
+quiet_lines (Frames at) t (word ∷ words) quiet = quiet_lines (Frames at) (after_word t word) words quiet
+quiet_lines (Sums at) t (word ∷ words) quiet = quiet_lines (Sums at) (after_word t word) words quiet
 
-unwatched_cost : (mode : Mode) (t : Replay) (words : List ℕ) → AreUnwatched mode words
+pub unwatched_cost : (mode : Mode) (t : Replay) (words : List ℕ) → IsUnwatched mode
     → lines_cost mode (after_words t words).frames (after_words t words).changes ≡ lines_cost mode t.frames t.changes
 unwatched_cost mode t [] unwatched = refl
 unwatched_cost Listing t (word ∷ words) unwatched = refl
-unwatched_cost (Pixel cell) t (word ∷ words) unwatched = absurd cc
+unwatched_cost (Pixel cell) t (word ∷ words) unwatched = absurd unwatched
 unwatched_cost Words t (word ∷ words) unwatched = refl
 unwatched_cost Vram t (word ∷ words) unwatched = refl
 unwatched_cost Shot t (word ∷ words) unwatched = refl
@@ -112,7 +107,7 @@ unwatched_cost (Frames at) t (word ∷ words) unwatched = unwatched_cost (Frames
 unwatched_cost (Sums at) t (word ∷ words) unwatched = unwatched_cost (Sums at) (after_word t word) words tt
 
 -- A mode that may have a buffer may have these pieces in it too.
-free_on : (mode : Mode) (buffered : List Piece) (notes : List Note) → MayBuffer mode buffered
+pub free_on : (mode : Mode) (buffered : List Piece) (notes : List Note) → MayBuffer mode buffered
     → MayBuffer mode (buffered ++ pieces_for mode notes)
 free_on mode buffered notes (inl is) = inl is
 free_on Listing buffered notes (inr none) = inl tt
@@ -131,7 +126,7 @@ module _ (script : List ℕ → Script) (t : Replay) (words : List ℕ) (events 
   BuffersWords mode = Buffers (WasDue mode script (events ++ word_events words) flushed taken) base
       (lines_of mode (after_words t words)) held (buffered ++ pieces_for mode (word_notes t words))
 
-  quiet_buffers : (mode : Mode) → AreQuiet mode words
+  quiet_buffers : (mode : Mode) → (IsBuffered mode → ⊥)
       → Buffers (WasDue mode script events flushed taken) base (lines_of mode t) held buffered
       → Buffers (WasDue mode script (events ++ word_events words) flushed taken) base
       (lines_of mode (after_words t words)) held (buffered ++ [])
@@ -142,27 +137,30 @@ module _ (script : List ℕ → Script) (t : Replay) (words : List ℕ) (events 
       (due_on mode script events (word_events words) flushed taken) so_far)
 
   -- The lines of the words are those of their notes, or there are none.
-  buffers_words : (mode : Mode) → AreUnwatched mode words
+  pub buffers_words : (mode : Mode) → IsUnwatched mode
       → (Buffers (WasDue Listing script events flushed taken) base (lines_of Listing t) held buffered
       → BuffersWords Listing)
       → Buffers (WasDue mode script events flushed taken) base (lines_of mode t) held buffered → BuffersWords mode
   buffers_words Listing unwatched listing so_far = listing so_far
-  buffers_words (Pixel cell) unwatched listing so_far = quiet_buffers (Pixel cell) unwatched so_far
-  buffers_words Words unwatched listing so_far = quiet_buffers Words tt so_far
-  buffers_words Vram unwatched listing so_far = quiet_buffers Vram tt so_far
-  buffers_words Shot unwatched listing so_far = quiet_buffers Shot tt so_far
-  buffers_words Report unwatched listing so_far = quiet_buffers Report tt so_far
-  buffers_words (Frames at) unwatched listing so_far = quiet_buffers (Frames at) tt so_far
-  buffers_words (Sums at) unwatched listing so_far = quiet_buffers (Sums at) tt so_far
+  buffers_words (Pixel cell) unwatched listing so_far = absurd unwatched
+  buffers_words Words unwatched listing so_far = quiet_buffers Words (λ is. is) so_far
+  buffers_words Vram unwatched listing so_far = quiet_buffers Vram (λ is. is) so_far
+  buffers_words Shot unwatched listing so_far = quiet_buffers Shot (λ is. is) so_far
+  buffers_words Report unwatched listing so_far = quiet_buffers Report (λ is. is) so_far
+  buffers_words (Frames at) unwatched listing so_far = quiet_buffers (Frames at) (λ is. is) so_far
+  buffers_words (Sums at) unwatched listing so_far = quiet_buffers (Sums at) (λ is. is) so_far
+
+-- the taps and the store steps before a replay, with the store steps of its output
+abbrev pub before_words : Mode → Streams → Replay → Outlets
+before_words mode before t = without_sink before.heard (before.steps + lines_cost mode t.frames t.changes)
 
 -- The GPU, the taps and the store steps are those of the replay so far.
 pub told_before : (mode : Mode) (script : List ℕ → Script) (before : Streams) (left held : Option (List ℕ))
-    (heard : List Reading) (steps : ℕ) (buffered : List Piece) (since : ℕ) (was : RigState) (p : Progress)
-    (reached : Reaches mode script before (streams left held heard steps) buffered was (GoesOn mode script since p))
-    → IsTold reached.replay
-    (without_sink before.heard (before.steps + lines_cost mode reached.replay.frames reached.replay.changes))
-    (without_sink heard steps) was.gpu was.played
-told_before mode script before left held heard steps buffered since was p reached = record {
+    (heard : List Reading) (steps : ℕ) (buffered : List Piece) (was : RigState)
+    (Says : Replay → List ℕ → List ℕ → List Event → Type 0)
+    (reached : Reaches mode script before (streams left held heard steps) buffered was Says)
+    → IsTold reached.replay (before_words mode before reached.replay) (without_sink heard steps) was.gpu was.played
+told_before mode script before left held heard steps buffered was Says reached = record {
   state = reached.stands.state.gpu;
   number = reached.stands.played;
   heard = reached.heard;
@@ -175,9 +173,9 @@ module _ (mode : Mode) (script : List ℕ → Script) (before : Streams) (left a
     (heard heard_now : List Reading) (steps steps_now : ℕ) (buffered : List Piece) (since : ℕ) (was rig : RigState)
     (p q : Progress) (words : List ℕ)
     (reached : Reaches mode script before (streams left held heard steps) buffered was (GoesOn mode script since p))
-    (unwatched : AreUnwatched mode words) (ram : rig.ram ≡ was.ram) (running : rig.running ≡ was.running)
-    (tells : (t : Replay) (first : Outlets) → IsTold t first (without_sink heard steps) was.gpu was.played
-    → IsTold (after_words t words) first (without_sink heard_now steps_now) rig.gpu rig.played)
+    (unwatched : IsUnwatched mode) (ram : rig.ram ≡ was.ram) (running : rig.running ≡ was.running)
+    (told : IsTold (after_words reached.replay words) (before_words mode before reached.replay)
+    (without_sink heard_now steps_now) rig.gpu rig.played)
     (started : 1 ≤ q.version) (near : IsBuffered mode → q.offset < since + 4096) where
   lies_after : (takes : TakesWords (reader_input p left) (reader_input q after) words)
       → LiesAfter since q (reached.after ++ takes.taken)
@@ -226,9 +224,6 @@ module _ (mode : Mode) (script : List ℕ → Script) (before : Streams) (left a
       (buffered ++ pieces_for mode (word_notes reached.replay words)) rig (GoesOn mode script since q)
   words_play takes =
       let t = reached.replay in
-      let spent = lines_cost mode t.frames t.changes in
-      let told = tells t (without_sink before.heard (before.steps + spent))
-      (told_before mode script before left held heard steps buffered since was p reached) in
       record {
         taken = reached.taken ++ takes.taken;
         bytes = taken_on before.left left after reached.taken takes.taken reached.bytes takes.bytes;

@@ -19,6 +19,7 @@ pub mod Opened
 pub mod Operations
 pub mod Firsts
 pub mod Following
+pub mod FirstWord
 pub mod InARow
 pub mod Together
 pub mod OwnWords

@@ -31,7 +31,7 @@ use Rattle.event_play.proofs.AtOnce.{same_numbers, word_is}
 use Rattle.event_play.proofs.Feeds.{word_lines}
 use Rattle.event_loop.proofs.Blocks.{needed_more}
 use Rattle.event_play.proofs.Following.{follows_on}
-use Rattle.event_play.proofs.Lacking.{WasDue, due_on}
+use Rattle.event_play.proofs.Lacking.{WasDue, due_here, due_on}
 
 -- ---- notes
 
@@ -206,6 +206,31 @@ put_buffered number bytes held buffered parts are = record {
     stands = out.stands;
   };
 }
+
+-- The line of a word that was just read is buffered after the output so far.
+pub word_buffered : (script : List ℕ → Script) (first t : Replay) (events : List Event) (word : ℕ)
+    (flushed after taken : List ℕ) (base held : Option (List ℕ)) (buffered : List Piece)
+    → ((rest : List ℕ) → (script (taken ++ rest)).first ≡ first) → Follows first events t → taken ≡ flushed ++ after
+    → AreNeeded (reads script) (events ++ Gp0 word ∷ []) taken
+    → Buffers (WasDue Listing script events flushed taken) base (lines_of Listing t) held buffered
+    → Buffers (WasDue Listing script (events ++ Gp0 word ∷ []) flushed taken) base
+    (lines_of Listing (after_word t word)) held (buffered ++ listed_pieces (word_notes t (word ∷ [])))
+word_buffered script first t events word flushed after taken base held buffered begins follows taken_is needed so_far =
+    let n = next_number t.played in
+    let note = option_to_list (gp0_note t.state.gpu n word) in
+    let due = flat_map listed note in
+    let ps = listed_pieces note in
+    let lines = flat_map-append listed t.notes note in
+    let one = buffers_on (WasDue Listing script events flushed taken)
+    (WasDue Listing script (events ++ Gp0 word ∷ []) flushed taken) base (lines_of Listing t) held buffered so_far
+    (due_on Listing script events (Gp0 word ∷ []) flushed taken) n due
+    (due_here Listing script first t (after_word t word) events (Gp0 word) flushed after taken due begins follows
+    taken_is needed (word_is t word) lines)
+    held (buffered ++ ps)
+    (put_buffered n due held buffered ps (word_pieces t.state.gpu n word)) in
+    let P : List ℕ → Type 0 = λ all.
+    Buffers (WasDue Listing script (events ++ Gp0 word ∷ []) flushed taken) base all held (buffered ++ ps) in
+    rw (append-nil note) (subst P (sym lines) one)
 
 -- ---- words after what was buffered so far
 

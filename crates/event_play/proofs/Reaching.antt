@@ -364,3 +364,25 @@ module _ (mode : Mode) (script : List ℕ → Script) (before : Streams) (left :
     event_ends (Refuses fault) held result ends after = fault_ends fault held result ends after
     event_ends (Lacks number) held result (inl parts) after = rw (after.0, after.1) (feeds_ends number parts)
     event_ends (Lacks number) held result (inr (at, parts)) after = rw (after.0, after.1) (shows_ends number at parts)
+
+-- ---- a pause before the event is played
+
+-- the flush failed
+pub flush_ends : (mode : Mode) (script : List ℕ → Script) (before : Streams) (left : Option (List ℕ)) (mid : Outlets)
+    (since : ℕ) (was : RigState) (p : Progress) (event : Event) (held : Option (List ℕ)) (number : ℕ)
+    → Awaits mode script before (beside left mid) mid.buffered since was p (Ok event) → AreSmall (plays script)
+    → BreaksWriting mid.held held mid.buffered number
+    → EndsPlay mode script before (at_end (streams left held mid.heard mid.steps) was) (WriteFailed number)
+flush_ends mode script before left mid since was p event held number reached is_small breaks =
+    let t = reached.replay in
+    let read = reached.says.read in
+    let due = WasDue mode script reached.events reached.flushed reached.taken in
+    let all = WasDue mode script (reached.events ++ event ∷ []) reached.flushed reached.taken in
+    lines_lack mode script before left mid mid since was was p event reached is_small number t held
+    (buffers_of mode mid.held held mid.buffered number reached.free breaks)
+    (buffers_off all before.held (lines_of mode t) mid.held held mid.buffered number
+    (buffers_more due all before.held (lines_of mode t) mid.held mid.buffered
+    (due_on mode script reached.events (event ∷ []) reached.flushed reached.taken) reached.buffers) breaks)
+    (leads_before read.first t reached.events event read.follows) reached.stands reached.heard
+    (λ rest. cost_within mode t (plays script (reached.taken ++ rest))
+    (then_events (event ∷ []) (capture_from p rest)) before.steps mid.steps (reached.says.says rest) reached.cost)

@@ -45,7 +45,7 @@ pub record IsTold (t : Replay) (first now : Outlets) (gpu : Kept) (played : ℕ)
   pub heard : now.heard ≡ told_notes t.notes first.heard
   pub cost : now.steps ≤ first.steps + t.cost
 
--- If the mode watches a cell, there is none of these words, since each word is then played on its own.
-abbrev pub AreUnwatched : Mode → (words : List ℕ) → Type 0
-AreUnwatched (Pixel cell) words = words ≡ []
-AreUnwatched mode words = Unit {0}
+-- The mode does not watch a cell.
+abbrev pub IsUnwatched : Mode → Type 0
+IsUnwatched (Pixel cell) = ⊥
+IsUnwatched mode = Unit {0}

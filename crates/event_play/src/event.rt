@@ -1,7 +1,10 @@
-// Plays the events of a capture one by one, with their output.
+// Plays the events of a capture, with their output.
 ghost use Rattle.std.specs.Prelude.{◌≡◌, map};
+ghost use Rattle.event_loop.specs.Halting.{FailsWriting};
+ghost use Rattle.gathered_out.specs.Causes.{Causes};
 ghost use Rattle.event_play.specs.Ends.{PlaysOrEnds};
 ghost use Rattle.event_play.specs.PlayState.{play_state};
+ghost use Rattle.event_play.specs.Reading.{PlaysRead};
 ghost use Rattle.event_play.specs.Streams.{buffering, outlets};
 
 use crate::ending::{EventInMode, InEvent, InMode};
@@ -10,6 +13,7 @@ use crate::feed::feed_word;
 use crate::film::Played;
 use crate::finals::write_after;
 use crate::outlet::Lines;
+use crate::record_words::RecordWords;
 use crate::rig::Rig;
 use crate::validate::validate;
 use dev_io::Sink;
@@ -19,10 +23,52 @@ use gpu_taps::Listener;
 use std::sync::ledger::Ledger;
 use vram_store::Steps;
 
+/// An event that was read, and the words that are played as one block, its own among them. There are none if the event
+/// is played on its own.
+#[derive(Clone, Copy)]
+pub(crate) struct ReadEvent<'a> {
+    pub(crate) event: &'a Event,
+    pub(crate) words: &'a RecordWords,
+}
+
 impl Rig {
-    /// Plays one event, and adds or writes its output. Refuses an event with a fault. If a write fails, returns the
-    /// number of the first event whose output is incomplete.
-    pub(crate) fn play_event<K: Sink, T: Listener, L: Ledger>(
+    /// Plays the words of `read` as one block, one event per word; or its event, if there are no words. Adds or writes
+    /// their output. Refuses an event with a fault. If a write fails, returns the number of the first event whose
+    /// output is incomplete; the words are all played nevertheless.
+    pub(crate) fn play_read<K: Sink, T: Listener, L: Ledger>(
+        &mut self,
+        read: InMode<ReadEvent>,
+        lines: &mut Lines<K>,
+        taps: &mut Vec<T>,
+        steps: &mut Steps<L>,
+    ) -> Result<(), Halt<EventFault>>
+        ensures plays { PlaysRead read.entry.mode read.entry.value.event.now read.entry.value.words.now
+            (play_state (buffering lines.old.buffered.now
+            (outlets (K.held lines.old.out.now) (K.faults lines.old.out.now)
+            (map T.heard taps.old.items) steps.old)) self.old)
+            (play_state (buffering lines.new.buffered.now
+            (outlets (K.held lines.new.out.now) (K.faults lines.new.out.now)
+            (map T.heard taps.new.items) steps.new)) self.new) result }
+        ensures causes { Causes (FailsWriting result) (K.faults lines.old.out.now) (K.faults lines.new.out.now) }
+        ensures buffered { lines.new.buffered.ghost_name ≡ lines.old.buffered.ghost_name }
+        ensures out { lines.new.out.ghost_name ≡ lines.old.out.ghost_name }
+    {
+        let ReadEvent { event, words } = read.value;
+        let mode = read.mode;
+        let words = words.as_slice();
+        if words.is_empty() {
+            let value = *event;
+            return self.play_event(InMode { value, mode }, lines, taps, steps);
+        }
+        match self.play_words(InMode { value: words, mode }, lines, taps, steps) {
+            Ok(()) => Ok(()),
+            Err(event) => Err(Halt::Lacks { event }),
+        }
+    }
+
+    // Plays one event, and adds or writes its output. Refuses an event with a fault. If a write fails, returns the
+    // number of the first event whose output is incomplete.
+    fn play_event<K: Sink, T: Listener, L: Ledger>(
         &mut self,
         event: InMode<Event>,
         lines: &mut Lines<K>,

@@ -17,6 +17,7 @@ mod outlet;
 mod pause;
 mod play;
 mod quiet;
+mod record_words;
 mod rig;
 mod state;
 mod stop;

@@ -10,36 +10,15 @@ ghost use Rattle.event_play.specs.PlayedWords.{IsTold, after_words, number_after
 ghost use Rattle.event_play.specs.Replay.{Replay};
 ghost use Rattle.event_play.specs.Streams.{Outlets, without_sink};
 
-use crate::ending::Mode;
+use crate::ending::{InMode, Mode};
 use crate::feed::{EventWords, feed_events};
 use crate::outlet::{Lines, put_listed};
 use crate::rig::Rig;
 use dev_io::Sink;
-use gpu_capture::WordBlock;
 use gpu_core::{Gpu, NotedWords};
 use gpu_taps::Listener;
 use std::sync::ledger::Ledger;
 use vram_store::Steps;
-
-/// Words of a capture that were read as one block, and the mode of output.
-#[derive(Drop)]
-pub(crate) struct ModeWords {
-    pub(crate) block: WordBlock,
-    pub(crate) mode: Mode,
-}
-
-impl ModeWords {
-    /// Returns no words.
-    pub(crate) fn new(mode: Mode) -> ModeWords
-        ensures none { result.block ≡ [] }
-        ensures mode { result.mode ≡ mode }
-    {
-        ModeWords {
-            block: WordBlock::new(),
-            mode,
-        }
-    }
-}
 
 impl Rig {
     /// Plays words written to GP0, one event per word. In mode `List`, adds the lines of their notes, except for pixels
@@ -47,35 +26,32 @@ impl Rig {
     /// nevertheless.
     pub(crate) fn play_words<K: Sink, T: Listener, L: Ledger>(
         &mut self,
-        words: &ModeWords,
+        words: InMode<&[u32]>,
         lines: &mut Lines<K>,
         taps: &mut Vec<T>,
         steps: &mut Steps<L>,
     ) -> Result<(), u64>
         ensures told { (t : Replay) (first : Outlets)
             → IsTold t first (without_sink (map T.heard taps.old.items) steps.old) self.old.gpu self.old.played
-            → IsTold (after_words t words.now.block) first (without_sink (map T.heard taps.new.items) steps.new)
+            → IsTold (after_words t words.entry.value.now) first (without_sink (map T.heard taps.new.items) steps.new)
             self.new.gpu self.new.played }
         ensures puts { (t : Replay) (first : Outlets)
             → IsTold t first (without_sink (map T.heard taps.old.items) steps.old) self.old.gpu self.old.played
-            → PutsPieces (pieces_for words.now.mode (word_notes t words.now.block))
+            → PutsPieces (pieces_for words.entry.mode (word_notes t words.entry.value.now))
             (holding (K.held lines.old.out.now) lines.old.buffered.now)
             (holding (K.held lines.new.out.now) lines.new.buffered.now) result }
-        ensures free { MayBuffer words.now.mode lines.old.buffered.now
-            → MayBuffer words.now.mode lines.new.buffered.now }
+        ensures free { MayBuffer words.entry.mode lines.old.buffered.now
+            → MayBuffer words.entry.mode lines.new.buffered.now }
         ensures ram { self.new.ram ≡ self.old.ram }
         ensures running { self.new.running ≡ self.old.running }
         ensures causes { Causes (Fails result) (K.faults lines.old.out.now) (K.faults lines.new.out.now) }
         ensures buffered { lines.new.buffered.ghost_name ≡ lines.old.buffered.ghost_name }
         ensures out { lines.new.out.ghost_name ≡ lines.old.out.ghost_name }
     {
-        if words.block.as_slice().is_empty() {
-            return Ok(());
-        }
         let played = self.played;
         let fed = EventWords {
             played,
-            words: words.block.as_slice(),
+            words: words.value,
         };
         self.played = played.saturating_add(fed.words.len() as u64);
         match words.mode {

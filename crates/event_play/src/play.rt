@@ -34,7 +34,8 @@ impl Rig {
     ///
     /// `Done` means that the capture was whole and all output was written. After every ending except `WriteFailed`, the
     /// rig is as after the events played. If the line of an item cannot be written, the remaining words of its event
-    /// are not fed, and the event does not count. Words that were read as one block are all played nevertheless.
+    /// are not fed, and the event does not count. Words that are played as one block are all played nevertheless: a
+    /// word of a Gp0 record and its next words at hand.
     pub fn play<S: Source, K: Sink, T: Listener, L: Ledger>(
         &mut self,
         source: &mut S,

@@ -2,12 +2,12 @@ use Rattle.std.proofs.Common.{◌∙◌, refl, map, arith}
 use Rattle.std.proofs.lemmas.Result.{IfErr-weaker}
 use Rattle.event_play.specs.Replay.{from_state}
 use Rattle.event_play.specs.Streams.{buffering, outlets}
-use Rattle.event_play.proofs.Awaiting.{awaits_is, pauses_on, reads, starts}
+use Rattle.event_play.proofs.Awaiting.{awaits_is, event_pauses, pauses_on, reads, starts}
 use Rattle.event_play.proofs.BoxCosts.{from_small}
-use Rattle.event_play.proofs.Reaching.{event_ends, plays_on}
+use Rattle.event_play.proofs.Reaching.{flush_ends}
 use Rattle.event_play.proofs.Stopping.{pause_ends, reading_ends}
 use Rattle.event_loop.proofs.Awaiting.{left_less}
-use Rattle.event_play.proofs.Together.{words_fail, words_stop, words_went}
+use Rattle.event_play.proofs.Together.{read_ends, read_stops, read_went}
 use Rattle.event_play.proofs.rig.Rig.play_rest.Goals as goal
 
 pub events-init : goal.events-init
@@ -18,7 +18,6 @@ events-init g c = record {
       (record { state = e; played = refl }))
       c.next-next.result c.next-next.ensures.takes c.next-next.ensures.version
       (c.next-next.ensures.stop c.requires.stop);
-  mode = c.new-words.ensures.mode;
   running = c.next-next.ensures.keeps.runs_on;
   known = c.next-next.ensures.version;
   read_cause = c.next-next.ensures.cause c.requires.stop;
@@ -30,14 +29,31 @@ events-init g c = record {
   out = refl;
 }
 
-pub returns-in-Err-play_event-clause-ends : goal.returns-in-Err-play_event-clause-ends
-returns-in-Err-play_event-clause-ends g c = λ s e.
+pub returns-in-Err-write_before_words-clause-ends : goal.returns-in-Err-write_before_words-clause-ends
+returns-in-Err-write_before_words-clause-ends g c = λ s e.
     let awaits = awaits_is _ _ _ _ _ _ _ _ _ _ c.in-Ok.is (c.events.invariant.awaits s e) in
-    rw (c.play_ending.ensures, c.next_number.ensures)
-    (event_ends _ _ _ _ _ _ _ _ _ _ c.in-Ok.event awaits
+    let mid = buffering c.events.lines.buffered.now (outlets (g.K.Sink.held c.events.lines.out.now)
+    (g.K.Sink.faults c.events.lines.out.now) (map g.T.Listener.heard c.events.taps.items) c.events.steps) in
+    flush_ends _ _ _ _ mid _ _ _ _ (g.K.Sink.held c.write_before_words.new.lines.out.now)
+    c.in-Err-write_before_words.event awaits
     (from_small s c.args.self.now.played c.args.capture.now.reader.now.progress)
-    c.in-Err-play_event.halt (g.K.Sink.held c.end_after-ended.new.out) c.end_after-ended.result
-    (c.in-Err-play_event.ensures.plays.ends awaits.replay awaits.stands awaits.free) c.end_after-ended.ensures.ends)
+    c.in-Err-write_before_words.ensures.failed
+
+pub returns-in-Err-play_read-clause-ends : goal.returns-in-Err-play_read-clause-ends
+returns-in-Err-play_read-clause-ends g c = λ s e.
+    let awaits = awaits_is _ _ _ _ _ _ _ _ _ _ c.in-Ok.is (c.events.invariant.awaits s e) in
+    let started = rw c.in-Ok.is at c.events.invariant.known in
+    let paused = event_pauses _ _ _ _ _ _ _ c.in-Ok-write_before_words.offset _ _ _
+    (g.K.Sink.held c.write_before_words.new.lines.out.now) awaits started c.in-Ok-write_before_words.ensures.ok in
+    let read = c.read-stopped.ensures in
+    rw (c.play_ending.ensures, c.next_number.ensures)
+    (read_ends _ _ _ _ _ _ _ _ _ _ _ _ c.in-Ok.event paused (rw read.goes_on.version started)
+    (λ is. let few = read.few is in let near = c.in-Ok-write_before_words.ensures.near in omega (arith, few, near)) _
+    c.read-stopped.new.self c.read-stopped.result c.in-Err-play_read.halt
+    (g.K.Sink.held c.end_after-ended.new.out) c.end_after-ended.result read.block
+    c.in-Err-play_read.ensures.plays read.reads read.stop
+    (from_small s c.args.self.now.played c.args.capture.now.reader.now.progress)
+    c.end_after-ended.ensures.ends)
 
 pub returns-in-Err-clause-ends : goal.returns-in-Err-clause-ends
 returns-in-Err-clause-ends g c = λ s e.
@@ -49,56 +65,21 @@ returns-in-Err-clause-ends g c = λ s e.
     refl c.end_reading-in-Err.result
     (c.end_reading-in-Err.ensures.ends awaits.replay.state.gpu awaits.stands.state.gpu)
 
-pub returns-in-Err-write_before_words-clause-ends : goal.returns-in-Err-write_before_words-clause-ends
-returns-in-Err-write_before_words-clause-ends g c = λ s e.
+pub returns-in-Err-stopped-clause-ends : goal.returns-in-Err-stopped-clause-ends
+returns-in-Err-stopped-clause-ends g c = λ s e.
     let awaits = awaits_is _ _ _ _ _ _ _ _ _ _ c.in-Ok.is (c.events.invariant.awaits s e) in
-    let played = plays_on _ _ _ _ _ _ _ _ _ _ c.in-Ok.event awaits
-    (c.in_default.ensures.plays.ok awaits.replay awaits.stands awaits.free) in
-    pause_ends _ _ _ _ _ _ _ _ (g.K.Sink.held c.write_before_words.new.lines.out.now)
-    c.in-Err-write_before_words.event played
-    (from_small s c.args.self.now.played c.args.capture.now.reader.now.progress)
-    c.in-Err-write_before_words.ensures.failed
-
-pub returns-in-Err-play_words-clause-ends : goal.returns-in-Err-play_words-clause-ends
-returns-in-Err-play_words-clause-ends g c = λ s e.
-    let awaits = awaits_is _ _ _ _ _ _ _ _ _ _ c.in-Ok.is (c.events.invariant.awaits s e) in
-    let played = plays_on _ _ _ _ _ _ _ _ _ _ c.in-Ok.event awaits
-    (c.in_default.ensures.plays.ok awaits.replay awaits.stands awaits.free) in
     let started = rw c.in-Ok.is at c.events.invariant.known in
-    let paused = pauses_on _ _ _ _ _ _ _ c.in-Ok-write_before_words.offset _ _
-    (g.K.Sink.held c.write_before_words.new.lines.out.now) played started c.in-Ok-write_before_words.ensures.ok in
-    let read = c.read_words-read.ensures in
-    words_fail _ _ _ _ _ _ _ _ _ _ _ _ _ _ _ _ _
-    paused.reached read.suit.unwatched c.play_words.ensures.ram c.play_words.ensures.running
-    c.play_words.ensures.told (rw read.goes_on.version started)
-    (λ is. let few = read.suit.few is in let near = c.in-Ok-write_before_words.ensures.near in omega (arith, few, near))
-    (g.K.Sink.held c.play_words.new.lines.out.now) c.play_words.new.lines.buffered.now c.in-Err-play_words.event
-    c.read_words-read.result
-    (rw c.events.invariant.mode at c.in-Err-play_words.ensures.puts) read.takes read.stop
-    (from_small s c.args.self.now.played c.args.capture.now.reader.now.progress)
-
-pub returns-in-Err-read-clause-ends : goal.returns-in-Err-read-clause-ends
-returns-in-Err-read-clause-ends g c = λ s e.
-    let awaits = awaits_is _ _ _ _ _ _ _ _ _ _ c.in-Ok.is (c.events.invariant.awaits s e) in
-    let played = plays_on _ _ _ _ _ _ _ _ _ _ c.in-Ok.event awaits
-    (c.in_default.ensures.plays.ok awaits.replay awaits.stands awaits.free) in
-    let started = rw c.in-Ok.is at c.events.invariant.known in
-    let paused = pauses_on _ _ _ _ _ _ _ c.in-Ok-write_before_words.offset _ _
-    (g.K.Sink.held c.write_before_words.new.lines.out.now) played started c.in-Ok-write_before_words.ensures.ok in
-    let read = c.read_words-read.ensures in
-    let stopped = words_stop _ _ _ _ _ _ _ _ _ _ _ _ _ _ _ _ _
-    paused.reached read.suit.unwatched c.play_words.ensures.ram c.play_words.ensures.running
-    c.play_words.ensures.told (rw read.goes_on.version started)
-    (λ is. let few = read.suit.few is in let near = c.in-Ok-write_before_words.ensures.near in omega (arith, few, near))
-    (g.K.Sink.held c.play_words.new.lines.out.now) c.play_words.new.lines.buffered.now c.in_default-play_words.field-0
-    c.in-Err-read.stop
-    (rw c.events.invariant.mode at c.in_default-play_words.ensures.puts)
-    ((rw c.events.invariant.mode at c.play_words.ensures.free) paused.reached.free)
-    c.in-Err-read.ensures.stop in
-    let mid = buffering c.play_words.new.lines.buffered.now (outlets (g.K.Sink.held c.play_words.new.lines.out.now)
-    (g.K.Sink.faults c.play_words.new.lines.out.now) (map g.T.Listener.heard c.play_words.new.taps.items)
-    c.play_words.new.steps) in
-    reading_ends _ _ _ _ mid _ _ _ _ c.in-Err-read.stop stopped
+    let paused = event_pauses _ _ _ _ _ _ _ c.in-Ok-write_before_words.offset _ _ _
+    (g.K.Sink.held c.write_before_words.new.lines.out.now) awaits started c.in-Ok-write_before_words.ensures.ok in
+    let read = c.read-stopped.ensures in
+    let stopped = read_stops _ _ _ _ _ _ _ _ _ _ _ _ c.in-Ok.event paused (rw read.goes_on.version started)
+    (λ is. let few = read.few is in let near = c.in-Ok-write_before_words.ensures.near in omega (arith, few, near))
+    c.read-stopped.new.self c.in_default.field-0 c.in-Err-stopped.stop read.block
+    c.in_default.ensures.plays c.in-Err-stopped.ensures.stop in
+    let mid = buffering c.play_read.new.lines.buffered.now (outlets (g.K.Sink.held c.play_read.new.lines.out.now)
+    (g.K.Sink.faults c.play_read.new.lines.out.now) (map g.T.Listener.heard c.play_read.new.taps.items)
+    c.play_read.new.steps) in
+    reading_ends _ _ _ _ mid _ _ _ _ c.in-Err-stopped.stop stopped
     (from_small s c.args.self.now.played c.args.capture.now.reader.now.progress)
     refl c.end_reading.result
     (c.end_reading.ensures.ends stopped.replay.state.gpu stopped.stands.state.gpu)
@@ -106,57 +87,49 @@ returns-in-Err-read-clause-ends g c = λ s e.
 pub returns-in-Err-write_before_event-clause-ends : goal.returns-in-Err-write_before_event-clause-ends
 returns-in-Err-write_before_event-clause-ends g c = λ s e.
     let awaits = awaits_is _ _ _ _ _ _ _ _ _ _ c.in-Ok.is (c.events.invariant.awaits s e) in
-    let played = plays_on _ _ _ _ _ _ _ _ _ _ c.in-Ok.event awaits
-    (c.in_default.ensures.plays.ok awaits.replay awaits.stands awaits.free) in
     let started = rw c.in-Ok.is at c.events.invariant.known in
-    let paused = pauses_on _ _ _ _ _ _ _ c.in-Ok-write_before_words.offset _ _
-    (g.K.Sink.held c.write_before_words.new.lines.out.now) played started c.in-Ok-write_before_words.ensures.ok in
-    let read = c.read_words-read.ensures in
+    let paused = event_pauses _ _ _ _ _ _ _ c.in-Ok-write_before_words.offset _ _ _
+    (g.K.Sink.held c.write_before_words.new.lines.out.now) awaits started c.in-Ok-write_before_words.ensures.ok in
+    let read = c.read-stopped.ensures in
     pause_ends _ _ _ _ _ _ _ _ (g.K.Sink.held c.write_before_event.new.lines.out.now) c.in-Err-write_before_event.event
-    (words_went _ _ _ _ _ _ _ _ _ _ _ _ _ _ _ _ _
-    paused.reached read.suit.unwatched c.play_words.ensures.ram c.play_words.ensures.running
-    c.play_words.ensures.told (rw read.goes_on.version started)
-    (λ is. let few = read.suit.few is in let near = c.in-Ok-write_before_words.ensures.near in omega (arith, few, near))
-    (g.K.Sink.held c.play_words.new.lines.out.now) c.play_words.new.lines.buffered.now c.in_default-play_words.field-0
-    (rw c.events.invariant.mode at c.in_default-play_words.ensures.puts)
-    ((rw c.events.invariant.mode at c.play_words.ensures.free) paused.reached.free)
-    c.in_default-read.ensures.takes)
+    (read_went _ _ _ _ _ _ _ _ _ _ _ _ c.in-Ok.event paused (rw read.goes_on.version started)
+    (λ is. let few = read.few is in let near = c.in-Ok-write_before_words.ensures.near in omega (arith, few, near))
+    c.read-stopped.new.self c.in_default.field-0 read.block
+    c.in_default.ensures.plays c.in_default-stopped.ensures.reads)
     (from_small s c.args.self.now.played c.args.capture.now.reader.now.progress)
     c.in-Err-write_before_event.ensures.failed
 
-pub returns-in-Err-read-clause-reads : goal.returns-in-Err-read-clause-reads
-returns-in-Err-read-clause-reads g c =
+pub returns-in-Err-stopped-clause-reads : goal.returns-in-Err-stopped-clause-reads
+returns-in-Err-stopped-clause-reads g c =
     let was = c.events.invariant.read_faults in
     record {
-      kept = omega (arith, was, c.read_words-read.ensures.faults.kept);
-      cause = λ may. omega (arith, was, c.in-Err-read.ensures.faults.cause (c.end_reading.ensures.stopped may));
+      kept = omega (arith, was, c.read-stopped.ensures.faults.kept);
+      cause = λ may. omega (arith, was, c.in-Err-stopped.ensures.faults.cause (c.end_reading.ensures.stopped may));
     }
 
-pub returns-in-Err-read-clause-writes : goal.returns-in-Err-read-clause-writes
-returns-in-Err-read-clause-writes g c =
+pub returns-in-Err-stopped-clause-writes : goal.returns-in-Err-stopped-clause-writes
+returns-in-Err-stopped-clause-writes g c =
     let was = c.events.invariant.write_faults in
-    let played = c.in_default.ensures.plays.causes.kept in
+    let played = c.play_read.ensures.causes.kept in
     let paused = c.in-Ok-write_before_words.ensures.causes.kept in
-    let words = c.play_words.ensures.causes.kept in
     record {
-      kept = omega (arith, was, played, paused, words, c.end_reading.ensures.causes.kept);
-      cause = λ may. omega (arith, was, played, paused, words, c.end_reading.ensures.causes.cause may);
+      kept = omega (arith, was, played, paused, c.end_reading.ensures.causes.kept);
+      cause = λ may. omega (arith, was, played, paused, c.end_reading.ensures.causes.cause may);
     }
 
 pub returns-in-Err-write_before_event-clause-writes : goal.returns-in-Err-write_before_event-clause-writes
 returns-in-Err-write_before_event-clause-writes g c =
     let was = c.events.invariant.write_faults in
-    let played = c.in_default.ensures.plays.causes.kept in
+    let played = c.play_read.ensures.causes.kept in
     let paused = c.in-Ok-write_before_words.ensures.causes.kept in
-    let words = c.play_words.ensures.causes.kept in
     record {
-      kept = omega (arith, was, played, paused, words, c.in-Err-write_before_event.ensures.causes.kept);
-      cause = λ may. omega (arith, was, played, paused, words, c.in-Err-write_before_event.ensures.causes.cause may);
+      kept = omega (arith, was, played, paused, c.in-Err-write_before_event.ensures.causes.kept);
+      cause = λ may. omega (arith, was, played, paused, c.in-Err-write_before_event.ensures.causes.cause may);
     }
 
 pub events-smaller : goal.events-smaller
 events-smaller g c =
-    left_less _ _ _ _ c.next-next-in-Ok.result c.in-Ok.event c.in-Ok.is c.in_default-read.ensures.goes_on.forward
+    left_less _ _ _ _ c.next-next-in-Ok.result c.in-Ok.event c.in-Ok.is c.in_default-stopped.ensures.goes_on.forward
     c.next-next-in-Ok.ensures.forward
 
 pub events-preserved : goal.events-preserved
@@ -164,58 +137,48 @@ events-preserved g c =
     record {
       awaits = λ s e.
           let awaits = awaits_is _ _ _ _ _ _ _ _ _ _ c.in-Ok.is (c.events.invariant.awaits s e) in
-          let played = plays_on _ _ _ _ _ _ _ _ _ _ c.in-Ok.event awaits
-          (c.in_default.ensures.plays.ok awaits.replay awaits.stands awaits.free) in
           let started = rw c.in-Ok.is at c.events.invariant.known in
-          let paused = pauses_on _ _ _ _ _ _ _ c.in-Ok-write_before_words.offset _ _
-          (g.K.Sink.held c.write_before_words.new.lines.out.now) played started c.in-Ok-write_before_words.ensures.ok in
-          let read = c.read_words-read.ensures in
-          let went = words_went _ _ _ _ _ _ _ _ _ _ _ _ _ _ _ _ _
-          paused.reached read.suit.unwatched c.play_words.ensures.ram c.play_words.ensures.running
-          c.play_words.ensures.told (rw read.goes_on.version started)
-          (λ is. let few = read.suit.few is in let near = c.in-Ok-write_before_words.ensures.near in
+          let paused = event_pauses _ _ _ _ _ _ _ c.in-Ok-write_before_words.offset _ _ _
+          (g.K.Sink.held c.write_before_words.new.lines.out.now) awaits started c.in-Ok-write_before_words.ensures.ok in
+          let read = c.read-stopped.ensures in
+          let went = read_went _ _ _ _ _ _ _ _ _ _ _ _ c.in-Ok.event paused (rw read.goes_on.version started)
+          (λ is. let few = read.few is in let near = c.in-Ok-write_before_words.ensures.near in
           omega (arith, few, near))
-          (g.K.Sink.held c.play_words.new.lines.out.now) c.play_words.new.lines.buffered.now
-          c.in_default-play_words.field-0
-          (rw c.events.invariant.mode at c.in_default-play_words.ensures.puts)
-          ((rw c.events.invariant.mode at c.play_words.ensures.free) paused.reached.free)
-          c.in_default-read.ensures.takes in
+          c.read-stopped.new.self c.in_default.field-0 read.block
+          c.in_default.ensures.plays c.in_default-stopped.ensures.reads in
           let again = pauses_on _ _ _ _ _ _ _ c.in-Ok-write_before_event.offset _ _
           (g.K.Sink.held c.write_before_event.new.lines.out.now)
           went (rw read.goes_on.version started) c.in-Ok-write_before_event.ensures.ok in
           reads _ _ _ _ _ _ _ _ _ _ again.reached (rw read.goes_on.version started) again.near
           c.next-next-in-Ok.result c.next-next-in-Ok.ensures.takes
-          (c.next-next-in-Ok.ensures.stop c.in_default-read.ensures.runs_on);
-      mode = c.events.invariant.mode;
+          (c.next-next-in-Ok.ensures.stop c.in_default-stopped.ensures.runs_on);
       running = c.next-next-in-Ok.ensures.keeps.runs_on;
       known = c.next-next-in-Ok.ensures.version;
       read_cause = IfErr-weaker c.next-next-in-Ok.result _ _
           (λ stop may fault.
-          omega (arith, may fault, c.events.invariant.read_faults, c.read_words-read.ensures.faults.kept))
-          (c.next-next-in-Ok.ensures.cause c.in_default-read.ensures.runs_on);
+          omega (arith, may fault, c.events.invariant.read_faults, c.read-stopped.ensures.faults.kept))
+          (c.next-next-in-Ok.ensures.cause c.in_default-stopped.ensures.runs_on);
       read_faults = omega (
         arith,
         c.events.invariant.read_faults,
-        c.read_words-read.ensures.faults.kept,
+        c.read-stopped.ensures.faults.kept,
         c.next-next-in-Ok.ensures.faults,
       );
       write_faults = omega (
         arith,
         c.events.invariant.write_faults,
-        c.in_default.ensures.plays.causes.kept,
+        c.play_read.ensures.causes.kept,
         c.in-Ok-write_before_words.ensures.causes.kept,
-        c.play_words.ensures.causes.kept,
         c.in-Ok-write_before_event.ensures.causes.kept,
       );
       reader = c.events.invariant.reader;
       source = c.events.invariant.source;
       buffered =
           c.in-Ok-write_before_event.ensures.buffered
-          ∙ (c.play_words.ensures.buffered
-          ∙ (c.in-Ok-write_before_words.ensures.buffered
-          ∙ (c.in_default.ensures.buffered ∙ c.events.invariant.buffered)));
+          ∙ (c.play_read.ensures.buffered
+          ∙ (c.in-Ok-write_before_words.ensures.buffered ∙ c.events.invariant.buffered));
       out =
           c.in-Ok-write_before_event.ensures.out
-          ∙ (c.play_words.ensures.out
-          ∙ (c.in-Ok-write_before_words.ensures.out ∙ (c.in_default.ensures.out ∙ c.events.invariant.out)));
+          ∙ (c.play_read.ensures.out
+          ∙ (c.in-Ok-write_before_words.ensures.out ∙ c.events.invariant.out));
     }

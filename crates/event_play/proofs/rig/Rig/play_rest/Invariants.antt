@@ -18,7 +18,6 @@ invariant-events g l = record {
       (streams (g.S.Source.left l.capture.source.now) (g.K.Sink.held l.lines.out.now)
       (map g.T.Listener.heard l.taps.items) l.steps)
       l.lines.buffered.now l.since l.self l.capture.reader.now.progress l.next;
-  mode : l.words.mode ≡ l.mode;
   running : OnOk l.next (l.capture.reader.now.stop ≡ None);
   known : OnOk l.next (1 ≤ l.capture.reader.now.progress.version);
   read_cause : IfErr l.next
