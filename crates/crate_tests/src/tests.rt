@@ -1,9 +1,5 @@
 // A module for each crate that is tested, and modules that they use.
 mod blend_dither_test;
-mod capture_cut_test;
-mod capture_flat_test;
-mod capture_slim_test;
-mod captures;
 mod dev_io_test;
 mod edge_walk_test;
 mod event_loop_test;

@@ -60,7 +60,7 @@ const FIRST_FAULT: Case = Case {
     ..LIST_LOOP
 };
 
-/// A capture with 1024 rows, and one without an event.
+/// A capture with 1024 rows.
 const TALL: Case = Case {
     head: b"PSXGPUC3",
     records: "gp0 20000ff 2000000 10001",
@@ -70,6 +70,16 @@ const TALL: Case = Case {
     ..LIST
 };
 
+/// One turn of a transfer: its own word, and not those of the whole transfer.
+const TURN: Case = Case {
+    records: "ram 100 e1000000 e2000000, begin 100 20001 1000201, turn 1, stat",
+    flat: "gp0 e1000000, stat",
+    len: 24,
+    shown: "14802000\nstatus 14802000\n",
+    ..TALL
+};
+
+/// A capture without an event.
 const EMPTY: Case = Case {
     records: "",
     flat: "",
@@ -107,6 +117,7 @@ fn flat_captures(rt: HostRuntime) -> Result<(), Fail> {
         LIST_LOOP,
         FIRST_FAULT,
         TALL,
+        TURN,
         EMPTY,
         SNAPSHOT,
     ] {
