@@ -3,14 +3,14 @@ ghost use Rattle.std.specs.Prelude.{◌≡◌, pos, ◌-ℤ◌, unsigned_abs, No
 ghost use Rattle.vram_store.specs.Vram.{height_of};
 ghost use Rattle.span_lanes.specs.ClipRect.{IsClipRect};
 ghost use Rattle.span_lanes.specs.Shade.{row_u};
-ghost use Rattle.span_lanes.specs.TexelRows.{CanCacheRows};
+ghost use Rattle.span_lanes.specs.TexelRows.{CanCacheRows, CanCacheRows256};
 ghost use Rattle.prim_draw.specs.Rectangles.{IsExtent, IsPartOf};
 ghost use Rattle.prim_draw.specs.ClippedRectangle.{AreTexelsOf, CanDrawRectangle, DrawsRectangle, texels_of};
 
 use crate::rectangles::{Extent, RectangleSetup};
 use crate::rows::{ClipRectRows, draw_rows};
 use span_lanes::{
-    AnyRows, CachedClutRows, ClipRect, DrawState, Paint, RectangleDrawer, SpanDrawer, TexelRows,
+    AnyRows, CachedClut256Rows, CachedClutRows, ClipRect, DrawState, Paint, RectangleDrawer, SpanDrawer, TexelRows,
     TexelRowsMethod, Texture, row_u,
 };
 use std::sync::ledger::Ledger;
@@ -88,7 +88,7 @@ impl ClippedRectangle<'_> {
     fn draw_cached<L: Ledger>(&self, rows: &TexelRows, vram: &mut Vram, steps: &mut Steps<L>)
         requires can { CanDrawRectangle (height_of vram.old) self.now }
         requires rows { AreTexelsOf self.now rows.now }
-        requires keeps { CanCacheRows rows.now }
+        requires keeps { CanCacheRows 0 rows.now }
         ensures { DrawsRectangle self.now
             (record { m = vram.old; steps = steps.old }) (record { m = vram.new; steps = steps.new }) }
     {
@@ -107,6 +107,23 @@ impl ClippedRectangle<'_> {
             } else {
                 self.draw_by::<CachedClutRows, L>(&rows, vram, steps);
             }
+        }
+    }
+
+    // The same for a CLUT of 256 entries: by one loop for opaque pixels, and one for others.
+    #[inline(never)]
+    fn draw_cached256<L: Ledger>(&self, rows: &TexelRows, vram: &mut Vram, steps: &mut Steps<L>)
+        requires can { CanDrawRectangle (height_of vram.old) self.now }
+        requires rows { AreTexelsOf self.now rows.now }
+        requires keeps { CanCacheRows256 rows.now }
+        ensures { DrawsRectangle self.now
+            (record { m = vram.old; steps = steps.old }) (record { m = vram.new; steps = steps.new }) }
+    {
+        let rows = rows.known_raw(false);
+        if rows.is_opaque() {
+            self.draw_by::<CachedClut256Rows, L>(&rows.known_opaque(), vram, steps);
+        } else {
+            self.draw_by::<CachedClut256Rows, L>(&rows, vram, steps);
         }
     }
 
@@ -153,6 +170,8 @@ impl ClippedRectangle<'_> {
         let rows = self.texels(texture);
         if rows.can_cache_clut() {
             self.draw_cached(&rows, vram, steps)
+        } else if rows.can_cache_clut256() {
+            self.draw_cached256(&rows, vram, steps)
         } else {
             self.draw_each(&rows, vram, steps)
         }

@@ -15,8 +15,10 @@
 mod attribute_ramps;
 mod blended;
 mod cached_clut;
+mod cached_clut256;
 mod chunk_loop;
 mod color_lanes;
+mod colored_clut256;
 mod contiguous_rows;
 mod draw;
 mod guarded;
@@ -48,6 +50,7 @@ mod triangle_setup;
 mod untextured_lanes;
 mod untextured_rows;
 
+pub use cached_clut256::CachedClut256Rows;
 pub use rectangle_drawer::{AnyRows, CachedClutRows, RectangleDrawer, TexelRowsMethod};
 pub use row_drawer::RowDrawer;
 pub use span::{Brush, ClipRect, DrawState, Paint, Run, Span};

@@ -21,7 +21,7 @@ use vram_store::{Steps, Vram};
 // Returns sixteen texels, modulated by one colour without dither, or unchanged if `raw` is true.
 #[inline(always)]
 #[tactic(auto, unfolding(crate::specs::Shade::modulated_texel))]
-fn modulated_entries(raw: bool, color: u32, texels: u16x16) -> u16x16
+pub(crate) fn modulated_entries(raw: bool, color: u32, texels: u16x16) -> u16x16
     requires long { length texels ≡ 16 }
     ensures long { length result ≡ 16 }
     ensures value { EachLane (λ j. slice_index result j ≡ modulated_texel raw color (pos 0) (slice_index texels j)) }
@@ -157,7 +157,7 @@ pub(crate) fn texels_by_index(
 // has no hazard and no dither.
 pub(crate) fn suits(span: &Span, row_setup: &RowSetup) -> bool
     requires row_setup { IsRowSetup span.now row_setup.now }
-    ensures { IsTrue result → CanCacheClut span.now row_setup.now.texture }
+    ensures { IsTrue result → CanCacheClut 0 span.now row_setup.now.texture }
 {
     let texture = &row_setup.texture;
     let even = has_undithered_clut16(texture, &span.brush);

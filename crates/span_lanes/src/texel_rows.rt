@@ -4,10 +4,12 @@ ghost use Rattle.span_lanes.specs.Shade.{row_u};
 ghost use Rattle.texel_lanes.specs.Texture.{IsTexture};
 ghost use Rattle.span_lanes.specs.ClipRect.{IsClipRect};
 ghost use Rattle.span_lanes.specs.TexelRun.{IsTexelRun};
-ghost use Rattle.span_lanes.specs.TexelRows.{IsRowOf, CanCacheRows, texel_row, texel_span};
+ghost use Rattle.span_lanes.specs.TexelRows.{AreRowsContiguous, CanCacheRows, CanCacheRows256, IsRowOf};
+ghost use Rattle.span_lanes.specs.TexelRows.{texel_row, texel_span};
 
+use crate::cached_clut256::is_worth_clut256;
 use crate::rows_hazard_free::are_rows_hazard_free;
-use crate::shading::has_undithered_clut16;
+use crate::shading::{has_modulated_clut256, has_undithered_clut16};
 use crate::span::{is_opaque, opaque_brush};
 use crate::texel_run::{TexelRun, does_not_wrap, is_unwindowed, run_at_coords};
 use crate::texel_run_rows::with_raw;
@@ -110,11 +112,24 @@ impl TexelRows {
     // Returns where the contiguous texels of row `v` of the page are, for any row of the clip rectangle.
     #[inline(always)]
     pub(crate) fn texel_run(&self, v: u8) -> TexelRun
-        requires keeps { CanCacheRows self.now }
+        requires keeps { AreRowsContiguous self.now }
         requires texture { IsTexture self.now.texture }
         ensures { (y : ℕ) → IsTexelRun (texel_span self.now y v) self.now.texture result }
     {
         run_at_coords(&self.texture, self.u, v)
+    }
+
+    // Returns true only if the texels of each row are contiguous, in cells that do not wrap, and no row has a hazard.
+    fn are_contiguous(&self) -> bool
+        requires clip_rect { IsClipRect 1024 self.now.clip_rect }
+        requires texture { IsTexture self.now.texture }
+        ensures { IsTrue result → AreRowsContiguous self.now }
+    {
+        let n = self.clip_rect.w;
+        if self.flip || !is_unwindowed(&self.texture, self.u, n) {
+            return false;
+        }
+        does_not_wrap(&self.texture, self.u as u16, n) && are_rows_hazard_free(self)
     }
 
     /// Returns true only if the texels of each row are contiguous, their CLUT has sixteen entries and can be modulated
@@ -123,16 +138,21 @@ impl TexelRows {
     pub fn can_cache_clut(&self) -> bool
         requires clip_rect { IsClipRect 1024 self.now.clip_rect }
         requires texture { IsTexture self.now.texture }
-        ensures { IsTrue result → CanCacheRows self.now }
+        ensures { IsTrue result → CanCacheRows 0 self.now }
     {
-        let n = self.clip_rect.w;
-        if self.flip
-            || !has_undithered_clut16(&self.texture, &self.brush)
-            || !is_unwindowed(&self.texture, self.u, n)
-        {
-            return false;
-        }
-        does_not_wrap(&self.texture, self.u as u16, n) && are_rows_hazard_free(self)
+        has_undithered_clut16(&self.texture, &self.brush) && self.are_contiguous()
+    }
+
+    /// The same for a CLUT of 256 entries, texels that are not raw, and rectangles that are large enough for it:
+    /// [`CachedClut256Rows`](crate::CachedClut256Rows) draws such rows.
+    pub fn can_cache_clut256(&self) -> bool
+        requires clip_rect { IsClipRect 1024 self.now.clip_rect }
+        requires texture { IsTexture self.now.texture }
+        ensures { IsTrue result → CanCacheRows256 self.now }
+    {
+        has_modulated_clut256(&self.texture, &self.brush)
+            && is_worth_clut256(&self.clip_rect)
+            && self.are_contiguous()
     }
 
     /// Returns these rows. The compiler then knows whether they are raw, and makes a loop for that case.
