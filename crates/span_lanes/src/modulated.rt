@@ -8,7 +8,7 @@ ghost use Rattle.span_lanes.specs.Shade.{IsSpan, modulated_texel};
 ghost use Rattle.span_lanes.specs.ColoredClut.{IsColoredClut, AreClutEntries, HasPalette, IsColoredBy, CanCacheClut};
 ghost use Rattle.texel_lanes.specs.Table.{entry_at};
 
-use crate::color_lanes::{ColorSource, DitherLanes, modulated_by, no_dither, one_color};
+use crate::color_lanes::{ColorSource, DitherLanes, modulated_by, one_color, undithered_by};
 use crate::guarded::RowSetup;
 use crate::shading::has_undithered_clut16;
 use crate::span::Chunk;
@@ -29,7 +29,7 @@ pub(crate) fn modulated_entries(raw: bool, color: u32, texels: u16x16) -> u16x16
     if raw {
         texels
     } else {
-        modulated_by(texels, one_color(color), no_dither())
+        undithered_by(texels, one_color(color))
     }
 }
 
