@@ -1,31 +1,22 @@
 // Rows of eight-bit texels whose CLUT of 256 entries is modulated once.
-ghost use Rattle.std.specs.Prelude.{◌≡◌, ◌≤◌, ◌+◌, IsTrue, true};
+ghost use Rattle.std.specs.Prelude.{◌≡◌, ◌≤◌, ◌+◌, true};
 ghost use Rattle.span_lanes.specs.ColoredClut256.{IsColoredClut256Of};
 ghost use Rattle.span_lanes.specs.TexelRows.{IsCached256};
 
 use crate::chunk_loop::{ChunkDrawer, draw_chunks};
 use crate::colored_clut256::{color_clut256, texels_by_octet};
 use crate::span::Chunk;
-use crate::texel_run::TexelRun;
-use crate::texel_run_samplers::sixteen_octets_of;
+use crate::texel_run_samplers::EightBitRun;
 use crate::textured_chunks::draw_texels;
-use crate::{ClipRect, TexelRows, TexelRowsMethod, Texture};
+use crate::{TexelRows, TexelRowsMethod, Texture};
 use std::sync::ledger::Ledger;
 use vram_store::{Steps, Vram};
-
-// Returns whether a rectangle has at least 512 cells, twice as many as a CLUT of 256 entries, in rows of at least
-// sixteen.
-pub(crate) fn is_worth_clut256(clip_rect: &ClipRect) -> bool
-    ensures { IsTrue result → 16 ≤ clip_rect.now.w }
-{
-    clip_rect.w >= 16 && clip_rect.w as u32 * clip_rect.h as u32 >= 512
-}
 
 // Draws contiguous eight-bit texels with a CLUT that was read and modulated before.
 #[derive(Clone, Copy)]
 struct CachedClut256<'a> {
     texture: Texture,
-    texel_run: TexelRun,
+    sampler: EightBitRun,
     // what the CLUT was modulated by
     color: u32,
     // a word for each entry: the entry in its low half, the same modulated in its high half
@@ -36,14 +27,14 @@ impl ChunkDrawer for CachedClut256<'_> {
     ghost use Rattle.span_lanes.specs.CachedClut.{CanUseCached256};
     ghost use Rattle.span_lanes.specs.TexelRun.{IsTexelRun};
 
-    ghost serves = { λ c s m. CanUseCached256 s c.texture (IsTexelRun s c.texture c.texel_run) c.color c.words.now m };
+    ghost serves = { λ c s m. CanUseCached256 s c.texture (IsTexelRun s c.texture c.sampler.texel_run) c.color c.words.now m };
 
     // The entry of each texel is not read again.
     ghost spared = { λ c k. k };
 
     #[inline(always)]
     fn draw_chunk<L: Ledger>(&self, vram: &mut Vram, chunk: &Chunk, steps: &mut Steps<L>) {
-        let index = sixteen_octets_of(self.texel_run, vram, &self.texture, chunk, steps);
+        let index = self.sampler.read_octets(vram, &self.texture, chunk, steps);
         let drawn = texels_by_octet(self.words, index);
         draw_texels(vram, &self.texture, drawn, chunk, steps);
     }
@@ -103,7 +94,9 @@ impl TexelRowsMethod for CachedClut256Rows {
         self.fill(vram, rows, steps);
         let chunks = CachedClut256 {
             texture: rows.texture,
-            texel_run: rows.texel_run(v),
+            sampler: EightBitRun {
+                texel_run: rows.texel_run(v),
+            },
             color: rows.color,
             words: &self.words,
         };

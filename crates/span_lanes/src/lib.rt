@@ -14,6 +14,7 @@
 
 mod attribute_ramps;
 mod blended;
+mod cacheable_rows;
 mod cached_clut;
 mod cached_clut256;
 mod chunk_loop;

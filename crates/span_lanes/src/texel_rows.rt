@@ -2,16 +2,11 @@
 ghost use Rattle.std.specs.Prelude.{◌≡◌, ◌≤◌, ℕ, ◌+◌, IsTrue, false};
 ghost use Rattle.span_lanes.specs.Shade.{row_u};
 ghost use Rattle.texel_lanes.specs.Texture.{IsTexture};
-ghost use Rattle.span_lanes.specs.ClipRect.{IsClipRect};
 ghost use Rattle.span_lanes.specs.TexelRun.{IsTexelRun};
-ghost use Rattle.span_lanes.specs.TexelRows.{AreRowsContiguous, CanCacheRows, CanCacheRows256, IsRowOf};
-ghost use Rattle.span_lanes.specs.TexelRows.{texel_row, texel_span};
+ghost use Rattle.span_lanes.specs.TexelRows.{AreRowsContiguous, IsRowOf, texel_row, texel_span};
 
-use crate::cached_clut256::is_worth_clut256;
-use crate::rows_hazard_free::are_rows_hazard_free;
-use crate::shading::{has_modulated_clut256, has_undithered_clut16};
 use crate::span::{is_opaque, opaque_brush};
-use crate::texel_run::{TexelRun, does_not_wrap, is_unwindowed, run_at_coords};
+use crate::texel_run::{TexelRun, run_at_coords};
 use crate::texel_run_rows::with_raw;
 use crate::{Brush, ClipRect, Paint, Span, Texture};
 
@@ -117,42 +112,6 @@ impl TexelRows {
         ensures { (y : ℕ) → IsTexelRun (texel_span self.now y v) self.now.texture result }
     {
         run_at_coords(&self.texture, self.u, v)
-    }
-
-    // Returns true only if the texels of each row are contiguous, in cells that do not wrap, and no row has a hazard.
-    fn are_contiguous(&self) -> bool
-        requires clip_rect { IsClipRect 1024 self.now.clip_rect }
-        requires texture { IsTexture self.now.texture }
-        ensures { IsTrue result → AreRowsContiguous self.now }
-    {
-        let n = self.clip_rect.w;
-        if self.flip || !is_unwindowed(&self.texture, self.u, n) {
-            return false;
-        }
-        does_not_wrap(&self.texture, self.u as u16, n) && are_rows_hazard_free(self)
-    }
-
-    /// Returns true only if the texels of each row are contiguous, their CLUT has sixteen entries and can be modulated
-    /// once, and no row has a hazard. [`CachedClutRows`](crate::CachedClutRows) draws such rows, and
-    /// [`AnyRows`](crate::AnyRows) all.
-    pub fn can_cache_clut(&self) -> bool
-        requires clip_rect { IsClipRect 1024 self.now.clip_rect }
-        requires texture { IsTexture self.now.texture }
-        ensures { IsTrue result → CanCacheRows 0 self.now }
-    {
-        has_undithered_clut16(&self.texture, &self.brush) && self.are_contiguous()
-    }
-
-    /// The same for a CLUT of 256 entries, texels that are not raw, and rectangles that are large enough for it:
-    /// [`CachedClut256Rows`](crate::CachedClut256Rows) draws such rows.
-    pub fn can_cache_clut256(&self) -> bool
-        requires clip_rect { IsClipRect 1024 self.now.clip_rect }
-        requires texture { IsTexture self.now.texture }
-        ensures { IsTrue result → CanCacheRows256 self.now }
-    {
-        has_modulated_clut256(&self.texture, &self.brush)
-            && is_worth_clut256(&self.clip_rect)
-            && self.are_contiguous()
     }
 
     /// Returns these rows. The compiler then knows whether they are raw, and makes a loop for that case.

@@ -14,7 +14,7 @@ pub draw_texels-requires-clause-drawn : goal.draw_texels-requires-clause-drawn
 draw_texels-requires-clause-drawn g c =
     let chunk = c.args.chunk.now in
     let span = chunk.span.now in
-    let indexes = c.sixteen_octets_of-index.ensures.indexes in
+    let indexes = c.read_octets-index.ensures.indexes in
     let drawn = c.texels_by_octet-drawn.ensures in
     record {
       texels = record {
@@ -47,7 +47,7 @@ returns-clause-drawn g c =
       cells = c.draw_texels.ensures.cells;
       long = c.draw_texels.ensures.others.count;
       cost = omega
-          (arith, cost, c.sixteen_octets_of-index.ensures.cost, c.draw_texels.ensures.cost, c.requires.chunk.some);
+          (arith, cost, c.read_octets-index.ensures.cost, c.draw_texels.ensures.cost, c.requires.chunk.some);
     }
 
 pub returns-clause-serves : goal.returns-clause-serves

@@ -2,7 +2,7 @@ use Rattle.std.proofs.Common.{◌≡◌, ◌<◌, ◌+◌, ℕ, ap, arith}
 use Rattle.texture_page.specs.Page.{clut_place}
 use Rattle.texel_lanes.specs.Texture.{at_cell}
 use Rattle.span_lanes.proofs.TexelRunLemmas.{eight_texel}
-use Rattle.span_lanes.proofs.texel_run_samplers.sixteen_octets_of.Goals as goal
+use Rattle.span_lanes.proofs.texel_run_samplers.EightBitRun.read_octets.Goals as goal
 
 pub sixteen_octets-requires : goal.sixteen_octets-requires
 sixteen_octets-requires g c =
@@ -20,7 +20,7 @@ returns-clause-indexes g c = record {
   low = c.sixteen_octets.ensures.low;
   entry = λ j lt.
       let lane : j < 16 = omega arith in
-      let s = c.args.texel_run in
+      let s = c.args.self.now.texel_run in
       let chunk = c.args.chunk.now in
       let column : s.u + chunk.first + j ≡ s.u + (chunk.first + j) = omega arith in
       let position = rw column at (c.sixteen_octets.ensures.value j lane) in
