@@ -168,12 +168,12 @@ impl ClippedRectangle<'_> {
             return self.draw_flat(vram, steps);
         };
         let rows = self.texels(texture);
-        if rows.can_cache_clut() {
-            self.draw_cached(&rows, vram, steps)
-        } else if rows.can_cache_clut256() {
-            self.draw_cached256(&rows, vram, steps)
-        } else {
+        if !rows.can_cache_clut() {
             self.draw_each(&rows, vram, steps)
+        } else if rows.texture.page.depth == 0 {
+            self.draw_cached(&rows, vram, steps)
+        } else {
+            self.draw_cached256(&rows, vram, steps)
         }
     }
 }

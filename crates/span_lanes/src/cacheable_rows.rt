@@ -1,5 +1,5 @@
 // Tests whether the CLUT can be modulated once for all rows of a rectangle.
-ghost use Rattle.std.specs.Prelude.{◌≤◌, IsTrue};
+ghost use Rattle.std.specs.Prelude.{◌≡◌, ◌≢◌, ◌≤◌, ◌&&◌, not, IsTrue, false};
 ghost use Rattle.texel_lanes.specs.Texture.{IsTexture};
 ghost use Rattle.span_lanes.specs.ClipRect.{IsClipRect};
 ghost use Rattle.span_lanes.specs.TexelRows.{AreRowsContiguous, CanCacheRows, CanCacheRows256};
@@ -8,6 +8,14 @@ use crate::rows_hazard_free::are_rows_hazard_free;
 use crate::shading::{has_modulated_clut256, has_undithered_clut16};
 use crate::texel_run::{does_not_wrap, is_unwindowed};
 use crate::{ClipRect, TexelRows};
+
+// Returns whether a clip rectangle has at least 512 cells, twice as many as a CLUT of 256 entries, in rows of at least
+// sixteen.
+fn is_worth_clut256(clip_rect: &ClipRect) -> bool
+    ensures { IsTrue result → 16 ≤ clip_rect.now.w }
+{
+    clip_rect.w >= 16 && clip_rect.w as u32 * clip_rect.h as u32 >= 512
+}
 
 impl TexelRows {
     // Returns true only if the texels of each row are contiguous, in cells that do not wrap, and no row has a hazard.
@@ -24,38 +32,33 @@ impl TexelRows {
         does_not_wrap(&self.texture, self.u as u16, n) && are_rows_hazard_free(self)
     }
 
-    /// Returns true only if the texels of each row are contiguous, their CLUT has sixteen entries and can be modulated
-    /// once, and no row has a hazard. [`CachedClutRows`](crate::CachedClutRows) draws such rows, and
-    /// [`AnyRows`](crate::AnyRows) all.
+    // Returns whether the CLUT can be modulated once, and is worth it. One of sixteen entries always is, unless pixels are
+    // dithered. One of 256 is if texels are not raw and the clip rectangle has at least 512 cells, in rows of at least
+    // sixteen.
+    #[inline(always)]
+    fn has_cacheable_clut(&self) -> bool
+        ensures even { IsTrue result → (self.now.brush.dither && not self.now.texture.raw) ≡ false }
+        ensures depth { IsTrue result → self.now.texture.page.depth ≢ 0 → self.now.texture.page.depth ≡ 1 }
+        ensures raw { IsTrue result → self.now.texture.page.depth ≢ 0 → self.now.texture.raw ≡ false }
+        ensures wide { IsTrue result → self.now.texture.page.depth ≢ 0 → 16 ≤ self.now.clip_rect.w }
+    {
+        if self.texture.page.depth == 0 {
+            has_undithered_clut16(&self.texture, &self.brush)
+        } else {
+            has_modulated_clut256(&self.texture, &self.brush) && is_worth_clut256(&self.clip_rect)
+        }
+    }
+
+    /// Returns true only if the texels of each row are contiguous, their CLUT can be modulated once, and no row has a
+    /// hazard. [`CachedClutRows`](crate::CachedClutRows) draws such rows of four-bit texels,
+    /// [`CachedClut256Rows`](crate::CachedClut256Rows) such rows of eight-bit texels, and [`AnyRows`](crate::AnyRows)
+    /// all.
     pub fn can_cache_clut(&self) -> bool
         requires clip_rect { IsClipRect 1024 self.now.clip_rect }
         requires texture { IsTexture self.now.texture }
-        ensures { IsTrue result → CanCacheRows 0 self.now }
+        ensures fours { IsTrue result → self.now.texture.page.depth ≡ 0 → CanCacheRows 0 self.now }
+        ensures eights { IsTrue result → self.now.texture.page.depth ≢ 0 → CanCacheRows256 self.now }
     {
-        has_undithered_clut16(&self.texture, &self.brush) && self.are_contiguous()
-    }
-
-    // Returns true only if the clip rectangle has at least 512 cells, twice as many as a CLUT of 256 entries, in rows of
-    // at least sixteen, and the rows are such as [`are_contiguous`](TexelRows::are_contiguous) tests.
-    #[inline(never)]
-    fn is_worth_clut256(&self) -> bool
-        requires clip_rect { IsClipRect 1024 self.now.clip_rect }
-        requires texture { IsTexture self.now.texture }
-        ensures wide { IsTrue result → 16 ≤ self.now.clip_rect.w }
-        ensures contiguous { IsTrue result → AreRowsContiguous self.now }
-    {
-        let ClipRect { w, h, .. } = self.clip_rect;
-        w >= 16 && w as u32 * h as u32 >= 512 && self.are_contiguous()
-    }
-
-    /// The same for a CLUT of 256 entries, texels that are not raw, and clip rectangles of at least 512 cells in rows of
-    /// at least sixteen. [`CachedClut256Rows`](crate::CachedClut256Rows) draws such rows.
-    #[inline(always)]
-    pub fn can_cache_clut256(&self) -> bool
-        requires clip_rect { IsClipRect 1024 self.now.clip_rect }
-        requires texture { IsTexture self.now.texture }
-        ensures { IsTrue result → CanCacheRows256 self.now }
-    {
-        has_modulated_clut256(&self.texture, &self.brush) && self.is_worth_clut256()
+        self.has_cacheable_clut() && self.are_contiguous()
     }
 }
