@@ -1,4 +1,4 @@
-use Rattle.std.proofs.Common.{refl, arith}
+use Rattle.std.proofs.Common.{refl}
 use Rattle.span_lanes.specs.TexelRows.{texel_span}
 use Rattle.span_lanes.proofs.TexelRunLemmas.{rising_stretch, row_rising}
 use Rattle.span_lanes.proofs.texel_rows.TexelRows.texel_run.Goals as goal
