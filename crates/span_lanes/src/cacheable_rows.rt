@@ -1,5 +1,5 @@
-// Tests whether the CLUT can be modulated once for all rows of a rectangle.
-ghost use Rattle.std.specs.Prelude.{◌≡◌, ◌≢◌, ◌≤◌, ◌&&◌, not, IsTrue, false};
+// Tests of all rows of a rectangle: whether their texels are contiguous, and whether their CLUT can be modulated once.
+ghost use Rattle.std.specs.Prelude.{◌≡◌, ◌≢◌, ◌≤◌, IsTrue, false};
 ghost use Rattle.texel_lanes.specs.Texture.{IsTexture};
 ghost use Rattle.span_lanes.specs.ClipRect.{IsClipRect};
 ghost use Rattle.span_lanes.specs.TexelRows.{AreRowsContiguous, CanCacheRows, CanCacheRows256};
@@ -18,9 +18,10 @@ fn is_worth_clut256(clip_rect: &ClipRect) -> bool
 }
 
 impl TexelRows {
-    // Returns true only if the texels of each row are contiguous, in cells that do not wrap, and no row has a hazard.
+    /// Returns true only if the texels of each row are contiguous, in cells that do not wrap, and no row has a hazard.
+    /// [`ContiguousRows`](crate::ContiguousRows) draws such rows, and [`AnyRows`](crate::AnyRows) all.
     #[inline(always)]
-    fn are_contiguous(&self) -> bool
+    pub fn are_contiguous(&self) -> bool
         requires clip_rect { IsClipRect 1024 self.now.clip_rect }
         requires texture { IsTexture self.now.texture }
         ensures { IsTrue result → AreRowsContiguous self.now }
@@ -32,33 +33,21 @@ impl TexelRows {
         does_not_wrap(&self.texture, self.u as u16, n) && are_rows_hazard_free(self)
     }
 
-    // Returns whether the CLUT can be modulated once, and is worth it. One of sixteen entries always is, unless pixels are
-    // dithered. One of 256 is if texels are not raw and the clip rectangle has at least 512 cells, in rows of at least
-    // sixteen.
+    /// Returns whether the CLUT of contiguous rows can be modulated once, and is worth it. One of sixteen entries always
+    /// is, unless pixels are dithered: [`CachedClutRows`](crate::CachedClutRows) draws such rows. One of 256 is if texels
+    /// are not raw and the clip rectangle has at least 512 cells, in rows of at least sixteen:
+    /// [`CachedClut256Rows`](crate::CachedClut256Rows) draws such rows.
     #[inline(always)]
-    fn has_cacheable_clut(&self) -> bool
-        ensures even { IsTrue result → (self.now.brush.dither && not self.now.texture.raw) ≡ false }
-        ensures depth { IsTrue result → self.now.texture.page.depth ≢ 0 → self.now.texture.page.depth ≡ 1 }
-        ensures raw { IsTrue result → self.now.texture.page.depth ≢ 0 → self.now.texture.raw ≡ false }
-        ensures wide { IsTrue result → self.now.texture.page.depth ≢ 0 → 16 ≤ self.now.clip_rect.w }
+    pub fn has_cacheable_clut(&self) -> bool
+        ensures fours { IsTrue result → self.now.texture.page.depth ≡ 0 → AreRowsContiguous self.now
+            → CanCacheRows 0 self.now }
+        ensures eights { IsTrue result → self.now.texture.page.depth ≢ 0 → AreRowsContiguous self.now
+            → CanCacheRows256 self.now }
     {
         if self.texture.page.depth == 0 {
             has_undithered_clut16(&self.texture, &self.brush)
         } else {
             has_modulated_clut256(&self.texture, &self.brush) && is_worth_clut256(&self.clip_rect)
         }
-    }
-
-    /// Returns true only if the texels of each row are contiguous, their CLUT can be modulated once, and no row has a
-    /// hazard. [`CachedClutRows`](crate::CachedClutRows) draws such rows of four-bit texels,
-    /// [`CachedClut256Rows`](crate::CachedClut256Rows) such rows of eight-bit texels, and [`AnyRows`](crate::AnyRows)
-    /// all.
-    pub fn can_cache_clut(&self) -> bool
-        requires clip_rect { IsClipRect 1024 self.now.clip_rect }
-        requires texture { IsTexture self.now.texture }
-        ensures fours { IsTrue result → self.now.texture.page.depth ≡ 0 → CanCacheRows 0 self.now }
-        ensures eights { IsTrue result → self.now.texture.page.depth ≢ 0 → CanCacheRows256 self.now }
-    {
-        self.has_cacheable_clut() && self.are_contiguous()
     }
 }

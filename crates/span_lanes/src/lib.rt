@@ -21,6 +21,7 @@ mod chunk_loop;
 mod color_lanes;
 mod colored_clut256;
 mod contiguous_rows;
+mod contiguous_texel_rows;
 mod draw;
 mod guarded;
 mod guarded_triangle;
@@ -52,6 +53,7 @@ mod untextured_lanes;
 mod untextured_rows;
 
 pub use cached_clut256::CachedClut256Rows;
+pub use contiguous_texel_rows::ContiguousRows;
 pub use rectangle_drawer::{AnyRows, CachedClutRows, RectangleDrawer, TexelRowsMethod};
 pub use row_drawer::RowDrawer;
 pub use span::{Brush, ClipRect, DrawState, Paint, Run, Span};
