@@ -10,8 +10,8 @@ ghost use Rattle.prim_draw.specs.ClippedRectangle.{AreTexelsOf, CanDrawRectangle
 use crate::rectangles::{Extent, RectangleSetup};
 use crate::rows::{ClipRectRows, draw_rows};
 use span_lanes::{
-    AnyRows, CachedClut256Rows, CachedClutRows, ClipRect, DrawState, Paint, RectangleDrawer, SpanDrawer, TexelRows,
-    TexelRowsMethod, Texture, row_u,
+    AnyRows, CachedClut256Rows, CachedClutRows, ClipRect, DrawState, Paint, RectangleDrawer,
+    SpanDrawer, TexelRows, TexelRowsMethod, Texture, row_u,
 };
 use std::sync::ledger::Ledger;
 use vram_store::{Steps, Vram};
