@@ -32,9 +32,9 @@ impl TexelRows {
         does_not_wrap(&self.texture, self.u as u16, n) && are_rows_hazard_free(self)
     }
 
-    // Returns whether the CLUT can be modulated once, and is worth it. One of sixteen entries always is, unless pixels are
-    // dithered. One of 256 is if texels are not raw and the clip rectangle has at least 512 cells, in rows of at least
-    // sixteen.
+    // Returns whether the CLUT can be modulated once, and is worth it. A CLUT of sixteen entries is, unless pixels are
+    // dithered. A CLUT of 256 entries is only if also texels are not raw and the clip rectangle has at least 512 cells,
+    // in rows of at least sixteen.
     #[inline(always)]
     fn has_cacheable_clut(&self) -> bool
         ensures even { IsTrue result → (self.now.brush.dither && not self.now.texture.raw) ≡ false }

@@ -24,8 +24,8 @@
 //   its page]
 //
 // Rectangles that cache their CLUT for all rows have four more loops of `CachedClut<TexelRun>`, in
-// `CachedClutRows::draw_row`. [rectangle, sprite 4-bit] Those of eight-bit texels have two of `CachedClut256`, opaque or
-// not, in `CachedClut256Rows::draw_row`. [rectangle 8-bit modulated]
+// `CachedClutRows::draw_row` [rectangle, sprite 4-bit], and for eight-bit texels two of `CachedClut256`, opaque or not,
+// in `CachedClut256Rows::draw_row` [rectangle 8-bit modulated].
 ghost use Rattle.std.specs.Prelude.{◌≡◌};
 ghost use Rattle.span_lanes.specs.Draws.{CanDraw, DrawsSpan, at_stage};
 ghost use Rattle.span_lanes.specs.Paints.{row_paint};
