@@ -11,7 +11,7 @@ use Rattle.span_lanes.specs.Shade.{LiesIn}
 use Rattle.span_lanes.proofs.CellsLemmas.{span_law}
 use Rattle.span_lanes.proofs.ChunkLemmas.{AreDrawn, drawn_begun, drawn_next, all_cells, all_cost}
 
--- the steps that c chunks spare at least, if the first of them spares so many
+-- the number of steps that the first c chunks spare at least, if the first of them spares `spared`
 abbrev pub saved : (spared c : ℕ) → ℕ
 saved spared zero = 0
 saved spared (suc c) = spared

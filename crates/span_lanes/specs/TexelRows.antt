@@ -55,7 +55,7 @@ pub record CanCacheRows (d : ℕ) (rows : TexelRows) : Type 0 where
   pub depth : rows.texture.page.depth ≡ d
   pub even : (rows.brush.dither && not rows.texture.raw) ≡ false
 
--- such rows whose CLUT has 256 entries. The first chunk of a row has sixteen cells.
+-- such rows whose CLUT has 256 entries, of texels that are modulated. The first chunk of each row has sixteen cells.
 pub record CanCacheRows256 (rows : TexelRows) : Type 0 where
   pub cache : CanCacheRows 1 rows
   pub raw : rows.texture.raw ≡ false

@@ -27,7 +27,8 @@ impl ChunkDrawer for CachedClut256<'_> {
     ghost use Rattle.span_lanes.specs.CachedClut.{CanUseCached256};
     ghost use Rattle.span_lanes.specs.TexelRun.{IsTexelRun};
 
-    ghost serves = { λ c s m. CanUseCached256 s c.texture (IsTexelRun s c.texture c.sampler.texel_run) c.color c.words.now m };
+    ghost serves = { λ c s m.
+        CanUseCached256 s c.texture (IsTexelRun s c.texture c.sampler.texel_run) c.color c.words.now m };
 
     // The entry of each texel is not read again.
     ghost spared = { λ c k. k };

@@ -22,8 +22,8 @@ pub(crate) trait ChunkDrawer {
     // The drawer serves this span in this video memory: it can draw its chunks.
     ghost serves: { Self → Span → List ℕ → Type 0 };
 
-    // The number of steps that a chunk of so many cells takes less than it may. Those of the first chunk pay for what
-    // was read before the loop.
+    // The number of steps that a chunk takes less than it may, from its number of cells. Those of the first chunk pay
+    // for what was read before the loop.
     ghost spared: { Self → ℕ → ℕ };
 
     fn draw_chunk<L: Ledger>(&self, vram: &mut Vram, chunk: &Chunk, steps: &mut Steps<L>)

@@ -21,8 +21,8 @@ fn clut_from(clut: u16, piece: u16) -> u16
     clut / 64 * 64 + (clut % 64 + piece) % 64
 }
 
-// Stores sixteen words from index `16 * piece` on. Each has an entry in its low half, and the same modulated in its high
-// half.
+// Stores sixteen words from index `16 * piece` on. Each has an entry in its low half, and the same modulated in its
+// high half.
 #[inline(always)]
 fn store_piece(words: &mut [u32; 256], piece: u16, entries: [u16; 16], modulated: [u16; 16])
     requires { piece < 16 }

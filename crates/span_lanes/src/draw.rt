@@ -24,9 +24,9 @@
 //   its page]
 //
 // Rectangles that cache their CLUT for all rows have four more loops of `CachedClut<TexelRun>`, in
-// `CachedClutRows::draw_row`. [rectangle, sprite 4-bit] Those of eight-bit texels have two of `CachedClut256`, opaque or
-// not, in `CachedClut256Rows::draw_row`. [rectangle 8-bit modulated] `ContiguousRows` draws other contiguous rows without
-// a hazard by the loops of `draw_raw` and `draw_shaded`. [rectangle 15-bit raw]
+// `CachedClutRows::draw_row` [rectangle, sprite 4-bit], and for eight-bit texels two of `CachedClut256`, opaque or not,
+// in `CachedClut256Rows::draw_row` [rectangle 8-bit modulated]. `ContiguousRows` draws other contiguous rows without a
+// hazard by the loops of `draw_raw` and `draw_shaded`. [rectangle 15-bit raw]
 ghost use Rattle.std.specs.Prelude.{◌≡◌};
 ghost use Rattle.span_lanes.specs.Draws.{CanDraw, DrawsSpan, at_stage};
 ghost use Rattle.span_lanes.specs.Paints.{row_paint};

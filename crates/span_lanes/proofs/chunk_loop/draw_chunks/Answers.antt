@@ -4,7 +4,8 @@ use Rattle.span_lanes.proofs.chunk_loop.draw_chunks.Goals as goal
 
 pub loop-c-init : goal.loop-c-init
 loop-c-init g c = record {
-  drawn = parts_begun c.args.span.now (g.C.ChunkDrawer.spared c.args.chunks.now (min c.args.span.now.n 16)) c.args.steps.now c.args.vram.now;
+  drawn = parts_begun c.args.span.now (g.C.ChunkDrawer.spared c.args.chunks.now (min c.args.span.now.n 16))
+      c.args.steps.now c.args.vram.now;
   serves = c.requires;
 }
 

@@ -14,8 +14,8 @@ loop-piece-preserved g c =
     let t = c.args.texture.now in
     record {
       long = c.color_piece.ensures.long;
-      entry = piece_more (λ (i : ℕ). entry_in words i ≡ at_cell c.args.vram.now (clut_place t.clut i)) c.loop-piece.piece
-          (λ i lt. ap (λ (word : ℕ). word % 2 ^ 16) (others i lt) ∙ so_far.entry i lt)
+      entry = piece_more (λ (i : ℕ). entry_in words i ≡ at_cell c.args.vram.now (clut_place t.clut i))
+          c.loop-piece.piece (λ i lt. ap (λ (word : ℕ). word % 2 ^ 16) (others i lt) ∙ so_far.entry i lt)
           c.color_piece.ensures.entry;
       front = piece_more
           (λ (i : ℕ). modulated_in words i ≡ modulated_texel t.raw c.args.color (pos 0) (entry_in words i))
