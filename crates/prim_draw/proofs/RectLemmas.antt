@@ -1,7 +1,7 @@
 -- Rows of a rectangle.
-use Rattle.std.proofs.Common.{◌≡◌, ◌≤◌, ◌<◌, ℕ, ◌+◌, ◌-◌, pos, ◌-ℤ◌, unsigned_abs, List, Option, None, Some, Bool}
+use Rattle.std.proofs.Common.{◌≡◌, ◌≤◌, ℕ, ◌+◌, ◌-◌, pos, ◌-ℤ◌, unsigned_abs, List, Option, None, Some, Bool}
 use Rattle.std.proofs.Common.{true, false}
-use Rattle.std.proofs.Common.{refl, sym, ap, ◌∙◌, subst, arith}
+use Rattle.std.proofs.Common.{refl, ap, ◌∙◌, arith}
 use Rattle.std.proofs.lemmas.Int.{ints}
 use Rattle.vram_store.specs.Vram.{height_of}
 use Rattle.span_lanes.specs.Draws.{CanDraw}

@@ -3,15 +3,17 @@ ghost use Rattle.std.specs.Prelude.{◌≡◌, pos, ◌-ℤ◌, unsigned_abs, No
 ghost use Rattle.vram_store.specs.Vram.{height_of};
 ghost use Rattle.span_lanes.specs.ClipRect.{IsClipRect};
 ghost use Rattle.span_lanes.specs.Shade.{row_u};
-ghost use Rattle.span_lanes.specs.TexelRows.{CanCacheRows};
+ghost use Rattle.span_lanes.specs.TexelRows.{AreRowsContiguous, CanCacheRows, CanCacheRows256};
 ghost use Rattle.prim_draw.specs.Rectangles.{IsExtent, IsPartOf};
+ghost use Rattle.prim_draw.specs.Solids.{IsEven, flat_state, solid_state};
 ghost use Rattle.prim_draw.specs.ClippedRectangle.{AreTexelsOf, CanDrawRectangle, DrawsRectangle, texels_of};
 
 use crate::rectangles::{Extent, RectangleSetup};
 use crate::rows::{ClipRectRows, draw_rows};
+use crate::solid::{Solid, solid_flat};
 use span_lanes::{
-    AnyRows, CachedClutRows, ClipRect, DrawState, Paint, RectangleDrawer, SpanDrawer, TexelRows,
-    TexelRowsMethod, Texture, row_u,
+    AnyRows, CachedClut256Rows, CachedClutRows, ClipRect, ContiguousRows, DrawState, Paint,
+    RectangleDrawer, SpanDrawer, TexelRows, TexelRowsMethod, Texture, row_u,
 };
 use std::sync::ledger::Ledger;
 use vram_store::{Steps, Vram};
@@ -88,7 +90,7 @@ impl ClippedRectangle<'_> {
     fn draw_cached<L: Ledger>(&self, rows: &TexelRows, vram: &mut Vram, steps: &mut Steps<L>)
         requires can { CanDrawRectangle (height_of vram.old) self.now }
         requires rows { AreTexelsOf self.now rows.now }
-        requires keeps { CanCacheRows rows.now }
+        requires keeps { CanCacheRows 0 rows.now }
         ensures { DrawsRectangle self.now
             (record { m = vram.old; steps = steps.old }) (record { m = vram.new; steps = steps.new }) }
     {
@@ -110,6 +112,23 @@ impl ClippedRectangle<'_> {
         }
     }
 
+    // The same for a CLUT of 256 entries: by one loop for opaque pixels, and one for others.
+    #[inline(never)]
+    fn draw_cached256<L: Ledger>(&self, rows: &TexelRows, vram: &mut Vram, steps: &mut Steps<L>)
+        requires can { CanDrawRectangle (height_of vram.old) self.now }
+        requires rows { AreTexelsOf self.now rows.now }
+        requires keeps { CanCacheRows256 rows.now }
+        ensures { DrawsRectangle self.now
+            (record { m = vram.old; steps = steps.old }) (record { m = vram.new; steps = steps.new }) }
+    {
+        let rows = rows.known_raw(false);
+        if rows.is_opaque() {
+            self.draw_by::<CachedClut256Rows, L>(&rows.known_opaque(), vram, steps);
+        } else {
+            self.draw_by::<CachedClut256Rows, L>(&rows, vram, steps);
+        }
+    }
+
     // Draws texels, choosing the loop for each row.
     #[inline(never)]
     fn draw_each<L: Ledger>(&self, rows: &TexelRows, vram: &mut Vram, steps: &mut Steps<L>)
@@ -121,8 +140,37 @@ impl ClippedRectangle<'_> {
         self.draw_by::<AnyRows, L>(rows, vram, steps);
     }
 
-    // Draws a rectangle without a texture.
-    fn draw_flat<L: Ledger>(&self, vram: &mut Vram, steps: &mut Steps<L>)
+    // Draws contiguous texels whose CLUT is not cached.
+    #[inline(never)]
+    fn draw_contiguous<L: Ledger>(&self, rows: &TexelRows, vram: &mut Vram, steps: &mut Steps<L>)
+        requires can { CanDrawRectangle (height_of vram.old) self.now }
+        requires rows { AreTexelsOf self.now rows.now }
+        requires contiguous { AreRowsContiguous rows.now }
+        ensures { DrawsRectangle self.now
+            (record { m = vram.old; steps = steps.old }) (record { m = vram.new; steps = steps.new }) }
+    {
+        self.draw_by::<ContiguousRows, L>(rows, vram, steps);
+    }
+
+    // Draws cells without a texture that all become the same halfword.
+    fn draw_solid<L: Ledger>(&self, solid: Solid, vram: &mut Vram, steps: &mut Steps<L>)
+        requires can { CanDrawRectangle (height_of vram.old) self.now }
+        requires flat { self.now.rectangle_setup.now.texture ≡ None }
+        requires uniform { IsEven solid }
+        requires state { solid_state solid
+            ≡ flat_state self.now.rectangle_setup.now.color self.now.rectangle_setup.now.brush }
+        ensures { DrawsRectangle self.now
+            (record { m = vram.old; steps = steps.old }) (record { m = vram.new; steps = steps.new }) }
+    {
+        let mut rows = ClipRectRows {
+            clip_rect: *self.clip_rect,
+        };
+        let mut drawer = solid;
+        draw_rows(vram, &mut rows, &mut drawer, steps);
+    }
+
+    // Draws any cells without a texture.
+    fn draw_spans<L: Ledger>(&self, vram: &mut Vram, steps: &mut Steps<L>)
         requires can { CanDrawRectangle (height_of vram.old) self.now }
         requires flat { self.now.rectangle_setup.now.texture ≡ None }
         ensures { DrawsRectangle self.now
@@ -141,6 +189,19 @@ impl ClippedRectangle<'_> {
         draw_rows(vram, &mut rows, &mut drawer, steps);
     }
 
+    // Draws a rectangle without a texture.
+    fn draw_flat<L: Ledger>(&self, vram: &mut Vram, steps: &mut Steps<L>)
+        requires can { CanDrawRectangle (height_of vram.old) self.now }
+        requires flat { self.now.rectangle_setup.now.texture ≡ None }
+        ensures { DrawsRectangle self.now
+            (record { m = vram.old; steps = steps.old }) (record { m = vram.new; steps = steps.new }) }
+    {
+        match solid_flat(self.rectangle_setup.color, &self.rectangle_setup.brush) {
+            Some(solid) => self.draw_solid(solid, vram, steps),
+            None => self.draw_spans(vram, steps),
+        }
+    }
+
     /// Draws the cells of the clip rectangle.
     pub(crate) fn draw<L: Ledger>(&self, vram: &mut Vram, steps: &mut Steps<L>)
         requires { CanDrawRectangle (height_of vram.old) self.now }
@@ -151,10 +212,14 @@ impl ClippedRectangle<'_> {
             return self.draw_flat(vram, steps);
         };
         let rows = self.texels(texture);
-        if rows.can_cache_clut() {
+        if !rows.are_contiguous() {
+            self.draw_each(&rows, vram, steps)
+        } else if !rows.has_cacheable_clut() {
+            self.draw_contiguous(&rows, vram, steps)
+        } else if rows.texture.page.depth == 0 {
             self.draw_cached(&rows, vram, steps)
         } else {
-            self.draw_each(&rows, vram, steps)
+            self.draw_cached256(&rows, vram, steps)
         }
     }
 }

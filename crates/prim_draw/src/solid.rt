@@ -1,4 +1,4 @@
-// Triangles whose cells all become one halfword.
+// Cells that all become one halfword.
 ghost use Rattle.std.specs.Prelude.{ℕ, ◌≡◌, ◌≤◌, IfSome};
 ghost use Rattle.edge_walk.specs.Triangle.{Corners};
 ghost use Rattle.vram_store.specs.Vram.{height_of};
@@ -45,9 +45,9 @@ pub(crate) fn solid_color_in(regs: &Regs, style: &Style) -> Option<Solid>
     }
 }
 
-// Returns a colour and a brush if each cell becomes the same halfword.
+/// Returns a colour and a brush if each cell becomes the same halfword.
 #[inline(always)]
-fn solid_flat(color: u32, brush: &Brush) -> Option<Solid>
+pub(crate) fn solid_flat(color: u32, brush: &Brush) -> Option<Solid>
     requires is { IsBrush brush.now }
     ensures uniform { IfSome result IsEven }
     ensures state { (height : ℕ) → IfSome result (λ solid. IsDrawState height (solid_state solid)) }

@@ -1,5 +1,7 @@
 -- Texels drawn through a modulated CLUT.
-use Rattle.std.proofs.Common.{◌≡◌, ◌≤◌, ◌<◌, ℕ, List, ◌+◌, ◌*◌, sym, ◌∙◌, arith, Option, None, Some, inr}
+use Rattle.std.proofs.Common.{◌≡◌, ◌≤◌, ◌<◌, ℕ, List, ◌+◌, ◌-◌, ◌*◌, sym, subst, ◌∙◌, arith, Option, None, Some}
+use Rattle.std.proofs.Common.{inl, inr}
+use Rattle.std.proofs.lemmas.Bool.{cases_lt}
 use Rattle.std.specs.Prelude.{IfSome}
 use Rattle.texture_page.specs.Page.{clut_place}
 use Rattle.vram_store.specs.Chunk.{AgreesApart}
@@ -12,18 +14,30 @@ use Rattle.span_lanes.specs.Shade.{texture_of}
 use Rattle.span_lanes.specs.declared.span.Span.{Span}
 use Rattle.std.specs.Option.{MatchOption}
 use Rattle.span_lanes.specs.ColoredClut.{IsColoredClut, AreClutEntries, IsColoredClutOf, HasPalette, IsPalette}
-use Rattle.span_lanes.specs.ColoredClut.{IsColoredBy}
+use Rattle.span_lanes.specs.ColoredClut.{AreEntriesOf, IsColoredBy}
+use Rattle.span_lanes.specs.ColoredClut256.{IsColoredClut256Of}
 use Rattle.span_lanes.proofs.BlindLemmas.{same_cell}
 
 -- a chunk of a span without a hazard has no cell of the CLUT
-pub clut_missed : (span : Span) (t : Texture) (first k : ℕ) → texture_of span.paint ≡ Some t → t.page.depth ≡ 0
-    → (HasHazard span first k → ⊥) → HasStripHazard (clut_strip t.clut 16) (target span.x span.y first) k → ⊥
-clut_missed span t first k of_paint four none hazard =
+pub clut_missed : (span : Span) (t : Texture) (first k n : ℕ) → texture_of span.paint ≡ Some t
+    → palette_of t ≡ Some (clut_strip t.clut n)
+    → (HasHazard span first k → ⊥) → HasStripHazard (clut_strip t.clut n) (target span.x span.y first) k → ⊥
+clut_missed span t first k n of_paint is none hazard =
     let strip : MatchOption (palette_of t) ⊥ (λ strip. HasStripHazard strip (target span.x span.y first) k)
-    = rw four hazard in
+    = rw is hazard in
     none (rw of_paint (inr strip))
 
--- a chunk that has no cell of the CLUT does not change it
+-- a chunk that has no cell of the CLUT does not change its entries
+pub entries_kept : (t : Texture) (x y k n : ℕ) (m now : List ℕ) (entry : ℕ → ℕ)
+    → AgreesApart (1024 * y + x) k m now → x + k ≤ 1024
+    → (HasStripHazard (clut_strip t.clut n) (record { x = x; y = y }) k → ⊥)
+    → AreEntriesOf t m n entry → AreEntriesOf t now n entry
+entries_kept t x y k n m now entry agree room none is i lt = is i lt ∙ sym cell
+  where
+    cell : at_cell now (clut_place t.clut i) ≡ at_cell m (clut_place t.clut i)
+    cell = same_cell m now x y k (clut_place t.clut i).x (clut_place t.clut i).y agree (omega arith) room
+        (λ j less e f. none (i, lt, (j, less, (e, f))))
+
 pub swatches_kept : (t : Texture) (x y k : ℕ) (m now : List ℕ) (colored_clut : ColoredClut)
     → AgreesApart (1024 * y + x) k m now → x + k ≤ 1024
     → (HasStripHazard (clut_strip t.clut 16) (record { x = x; y = y }) k → ⊥)
@@ -31,13 +45,19 @@ pub swatches_kept : (t : Texture) (x y k : ℕ) (m now : List ℕ) (colored_clut
 swatches_kept t x y k m now colored_clut agree room none is = record {
   entries = is.entries;
   modulated = is.modulated;
-  entry = λ i lt. is.entry i lt ∙ sym (cell i lt);
+  entry = entries_kept t x y k 16 m now _ agree room none is.entry;
   front = is.front;
 }
-  where
-    cell : (i : ℕ) → i < 16 → at_cell now (clut_place t.clut i) ≡ at_cell m (clut_place t.clut i)
-    cell i lt = same_cell m now x y k (clut_place t.clut i).x (clut_place t.clut i).y agree (omega arith) room
-        (λ j less e f. none (i, lt, (j, less, (e, f))))
+
+pub swatches256_kept : (t : Texture) (x y k color : ℕ) (m now words : List ℕ)
+    → AgreesApart (1024 * y + x) k m now → x + k ≤ 1024
+    → (HasStripHazard (clut_strip t.clut 256) (record { x = x; y = y }) k → ⊥)
+    → IsColoredClut256Of t m color words → IsColoredClut256Of t now color words
+swatches256_kept t x y k color m now words agree room none is = record {
+  long = is.long;
+  entry = entries_kept t x y k 256 m now _ agree room none is.entry;
+  front = is.front;
+}
 
 pub palette_is : (t : Texture) (m : List ℕ) (color : ℕ) (s : ColoredClut) → IsColoredClut s
     → AreClutEntries t m s.entries
@@ -58,3 +78,13 @@ pub palette_kept : (t : Texture) (m : List ℕ) (color : ℕ) (last : Option Col
     → IfSome last (λ s. AreClutEntries t m s.entries) → IsColoredBy last t.raw color → HasPalette t m color last
 palette_kept t m color None colored entries under = absurd under
 palette_kept t m color (Some s) colored entries under = palette_is t m color s colored entries under.0 under.1
+
+-- what holds for the entries before a piece of sixteen, and for the piece, holds for all of them
+pub piece_more : (P : ℕ → Type 0) (piece : ℕ) → ((i : ℕ) → i < 16 * piece → P i)
+    → ((i : ℕ) → i < 16 → P (16 * piece + i)) → (i : ℕ) → i < 16 * (piece + 1) → P i
+piece_more P piece before here i lt = elim (cases_lt i (16 * piece)) [
+  | inl below ↦ before i below
+  | inr above ↦
+      let place : 16 * piece + (i - 16 * piece) ≡ i = omega arith in
+      subst P place (here (i - 16 * piece) (omega arith))
+]

@@ -31,7 +31,7 @@ can_draw_row setup span m ready row = record { ready = ready; can = row.can; haz
 pub can_color_row : (setup : TriangleSetup) (span : Span) (m : List ℕ) (color : ℕ) (texel_run : TexelRun)
     → CanDrawSetup setup span m → CanCacheTriangle setup.tri setup.texture setup.brush color
     → IsTexelRun span setup.texture texel_run
-    → CanColorClut span setup.texture (IsTexelRun span setup.texture texel_run) color m
+    → CanColorClut 0 span setup.texture (IsTexelRun span setup.texture texel_run) color m
 can_color_row setup span m color texel_run can suits finds = record {
   sample = record { can = can.can; texture = ap texture_of can.ready.paint };
   suits = record {

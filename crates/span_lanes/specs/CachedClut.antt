@@ -13,6 +13,7 @@ use Rattle.span_lanes.specs.RowColors.{AreRowColors}
 use Rattle.span_lanes.specs.Paints.{chunk_u, chunk_v}
 use Rattle.texel_lanes.specs.Texture.{at_cell, texel}
 use Rattle.span_lanes.specs.ColoredClut.{IsColoredClut, IsColoredClutOf, CanCacheClut}
+use Rattle.span_lanes.specs.ColoredClut256.{IsColoredClut256Of}
 
 -- a textured span without a hazard; `found` states that its texels can be found
 pub record CanTakeTexels (s : Span) (t : Texture) (found : Type 0) (m : List ℕ) : Type 0 where
@@ -20,23 +21,28 @@ pub record CanTakeTexels (s : Span) (t : Texture) (found : Type 0) (m : List ℕ
   pub hazard_free : IsHazardFree s
   pub finds : found
 
--- such a span of one colour whose CLUT of sixteen entries can be modulated once
-pub record CanColorClut (s : Span) (t : Texture) (found : Type 0) (color : ℕ) (m : List ℕ) : Type 0 where
+-- such a span of one colour and texels of this depth whose CLUT can be modulated once
+pub record CanColorClut (d : ℕ) (s : Span) (t : Texture) (found : Type 0) (color : ℕ) (m : List ℕ) : Type 0 where
   pub sample : CanSample s t m
-  pub suits : CanCacheClut s t
+  pub suits : CanCacheClut d s t
   pub finds : found
   pub hue : AreRowColors s.paint s.x s.y s.n (One color)
 
--- such a span whose modulated CLUT is cached
+-- such a span whose modulated CLUT of sixteen entries is cached
 pub record CanUseCached (s : Span) (t : Texture) (found : Type 0) (cached : ColoredClut) (m : List ℕ) : Type 0 where
-  pub can : CanColorClut s t found cached.color m
+  pub can : CanColorClut 0 s t found cached.color m
   pub raw : cached.raw ≡ t.raw
   pub colored : IsColoredClut cached
   pub entries : IsColoredClutOf t m cached
 
--- sixteen CLUT indexes, the first of them those of the texels of a chunk
-pub record HasIndexes (t : Texture) (p : Chunk) (m lanes : List ℕ) : Type 0 where
+-- such a span whose modulated CLUT of 256 entries is cached
+pub record CanUseCached256 (s : Span) (t : Texture) (found : Type 0) (color : ℕ) (words m : List ℕ) : Type 0 where
+  pub can : CanColorClut 1 s t found color m
+  pub entries : IsColoredClut256Of t m color words
+
+-- sixteen indexes of a CLUT of n entries, the first of them those of the texels of a chunk
+pub record HasIndexes (t : Texture) (n : ℕ) (p : Chunk) (m lanes : List ℕ) : Type 0 where
   pub bytes : AreBytes lanes
-  pub low : EachLane (λ i. slice_index lanes i < 16)
+  pub low : EachLane (λ i. slice_index lanes i < n)
   pub entry : (j : ℕ) → j < p.k → at_cell m (clut_place t.clut (slice_index lanes j))
       ≡ texel t (chunk_u p j) (chunk_v p j) m

@@ -21,6 +21,7 @@ pub mod TriangleSetup
 pub mod Solid
 pub mod TexelRun
 pub mod ColoredClut
+pub mod ColoredClut256
 pub mod TexelRows
 pub mod Untextured
 pub mod TexCoords

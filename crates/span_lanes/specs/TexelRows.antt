@@ -1,7 +1,8 @@
 -- Rows of texels in a clip rectangle.
-use Rattle.std.specs.Prelude.{ℕ, List, ◌≡◌, ◌≤◌, ◌+◌, ◌-◌, ◌<◌, ◌/◌, ◌&&◌, not, false}
+use Rattle.std.specs.Prelude.{ℕ, List, ◌≡◌, ◌≤◌, ◌+◌, ◌-◌, ◌<◌, ◌/◌, ◌&&◌, not, Bool, IsTrue, false}
 use Rattle.span_lanes.specs.Draws.{CanDraw}
 use Rattle.span_lanes.specs.ClipRect.{IsInClip}
+use Rattle.span_lanes.specs.ColoredClut256.{IsColoredClut256Of}
 use Rattle.span_lanes.specs.Guard.{IsHazardFree}
 use Rattle.span_lanes.specs.SpanDrawer.{state_span}
 use Rattle.span_lanes.specs.declared.span.DrawState.{DrawState}
@@ -38,16 +39,31 @@ pub record AreRowsHazardFree (rows : TexelRows) : Type 0 where
   pub free : (y : ℕ) → rows.clip_rect.y ≤ y → y < rows.clip_rect.y + rows.clip_rect.h
       → IsSpan (texel_span rows y (texel_row rows y)) → IsHazardFree (texel_span rows y (texel_row rows y))
 
--- the CLUT of sixteen entries can be modulated once for all rows: their texels are contiguous, in cells that do not
--- wrap, and no row has a hazard
-pub record CanCacheRows (rows : TexelRows) : Type 0 where
+-- the texels of each row are contiguous, in cells that do not wrap, and no row has a hazard
+pub record AreRowsContiguous (rows : TexelRows) : Type 0 where
   pub rises : rows.flip ≡ false
   pub clear : rows.texture.window.mask_x ≡ 0
   pub in_page : rows.u + rows.clip_rect.w ≤ 256
-  pub fours : rows.texture.page.x + (rows.u + rows.clip_rect.w) / 4 + 16 ≤ 1024
-  pub depth : rows.texture.page.depth ≡ 0
-  pub even : (rows.brush.dither && not rows.texture.raw) ≡ false
+  pub wholes : 2 ≤ rows.texture.page.depth → rows.texture.page.x + (rows.u + rows.clip_rect.w) ≤ 1024
+  pub eights : rows.texture.page.depth ≡ 1 → rows.texture.page.x + (rows.u + rows.clip_rect.w) / 2 + 16 ≤ 1024
+  pub fours : rows.texture.page.depth ≡ 0 → rows.texture.page.x + (rows.u + rows.clip_rect.w) / 4 + 16 ≤ 1024
   pub hazard_free : AreRowsHazardFree rows
+
+-- such rows of texels of this depth whose CLUT can be modulated once for all of them
+pub record CanCacheRows (d : ℕ) (rows : TexelRows) : Type 0 where
+  pub contiguous : AreRowsContiguous rows
+  pub depth : rows.texture.page.depth ≡ d
+  pub even : (rows.brush.dither && not rows.texture.raw) ≡ false
+
+-- such rows whose CLUT has 256 entries, of texels that are modulated. The first chunk of each row has sixteen cells.
+pub record CanCacheRows256 (rows : TexelRows) : Type 0 where
+  pub cache : CanCacheRows 1 rows
+  pub raw : rows.texture.raw ≡ false
+  pub wide : 16 ≤ rows.clip_rect.w
+
+-- once it is filled, the CLUT of 256 entries is that of the rows in video memory, modulated by their colour
+abbrev pub IsCached256 : TexelRows → (m : List ℕ) → (filled : Bool) → (words : List ℕ) → Type 0
+IsCached256 rows m filled words = IsTrue filled → IsColoredClut256Of rows.texture m rows.color words
 
 -- what each row of the clip rectangle is drawn with
 abbrev pub rows_pattern : TexelRows → Pattern

@@ -22,7 +22,7 @@ use vram_store::{Steps, Vram};
 #[inline(always)]
 pub(crate) fn can_cache_clut(span: &Span, texture: &Texture) -> bool
     requires { IsHazardFree span.now }
-    ensures { IsTrue result → CanCacheClut span.now texture.now }
+    ensures { IsTrue result → CanCacheClut 0 span.now texture.now }
 {
     has_undithered_clut16(texture, &span.brush)
 }
@@ -54,7 +54,7 @@ pub(crate) fn draw_cached<S: IndexSampler + Copy, L: Ledger>(
     last: &mut Option<ColoredClut>,
     steps: &mut Steps<L>,
 )
-    requires can { CanColorClut span.now texels.now.texture.now
+    requires can { CanColorClut 0 span.now texels.now.texture.now
         (S.finds texels.now.sampler span.now texels.now.texture.now) texels.now.color vram.old }
     requires last { IsCached span.now.paint vram.old last.old }
     ensures drawn { DrawsSpan span.now 0 (at_stage vram.old steps.old) (at_stage vram.new steps.new) }
@@ -99,7 +99,7 @@ pub(crate) fn draw_cached_run<L: Ledger>(
     last: &mut Option<ColoredClut>,
     steps: &mut Steps<L>,
 )
-    requires can { CanColorClut span.now texels.now.texture.now
+    requires can { CanColorClut 0 span.now texels.now.texture.now
         (IsTexelRun span.now texels.now.texture.now texels.now.sampler) texels.now.color vram.old }
     requires last { IsCached span.now.paint vram.old last.old }
     ensures drawn { DrawsSpan span.now 0 (at_stage vram.old steps.old) (at_stage vram.new steps.new) }

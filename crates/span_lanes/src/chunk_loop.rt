@@ -1,5 +1,5 @@
 // The loop over the chunks of a span. A chunk is stored at once, or drawn cell after cell.
-ghost use Rattle.std.specs.Prelude.{ℕ, List, ◌≡◌, ◌≤◌, ◌+◌, ◌*◌, length};
+ghost use Rattle.std.specs.Prelude.{ℕ, List, ◌≡◌, ◌≤◌, ◌+◌, ◌*◌, length, min};
 ghost use Rattle.span_lanes.specs.Draws.{CanDraw, DrawsChunk, DrawsSpan, IsChunk, at_stage};
 ghost use Rattle.vram_store.specs.Chunk.{AgreesApart};
 ghost use Rattle.span_lanes.specs.Chunk.{chunk_place, drawn_chunk, HasChunk};
@@ -22,13 +22,14 @@ pub(crate) trait ChunkDrawer {
     // The drawer serves this span in this video memory: it can draw its chunks.
     ghost serves: { Self → Span → List ℕ → Type 0 };
 
-    // The number of steps that each chunk takes less than it may. They pay for what was read before the loop.
-    ghost spared: { Self → ℕ };
+    // The number of steps that a chunk takes less than it may, from its number of cells. Those of the first chunk pay
+    // for what was read before the loop.
+    ghost spared: { Self → ℕ → ℕ };
 
     fn draw_chunk<L: Ledger>(&self, vram: &mut Vram, chunk: &Chunk, steps: &mut Steps<L>)
         requires serves { serves self.now chunk.now.span.now vram.old }
         requires chunk { IsChunk chunk.now }
-        ensures drawn { DrawsChunk chunk.now (spared self.now)
+        ensures drawn { DrawsChunk chunk.now (spared self.now chunk.now.k)
             (at_stage vram.old steps.old) (at_stage vram.new steps.new) }
         ensures serves { serves self.now chunk.now.span.now vram.new };
 
@@ -45,7 +46,7 @@ pub(crate) fn draw_chunks<C: ChunkDrawer, L: Ledger>(
     steps: &mut Steps<L>,
 )
     requires { C.serves chunks.now span.now vram.old }
-    ensures drawn { DrawsSpan span.now (C.spared chunks.now)
+    ensures drawn { DrawsSpan span.now (C.spared chunks.now (min span.now.n 16))
         (at_stage vram.old steps.old) (at_stage vram.new steps.new) }
     ensures serves { C.serves chunks.now span.now vram.new }
 {
@@ -81,7 +82,7 @@ pub(crate) fn draw_by_brush<C: ChunkDrawer, L: Ledger>(
     steps: &mut Steps<L>,
 )
     requires { C.serves chunks.now span.now vram.old }
-    ensures drawn { DrawsSpan span.now (C.spared chunks.now)
+    ensures drawn { DrawsSpan span.now (C.spared chunks.now (min span.now.n 16))
         (at_stage vram.old steps.old) (at_stage vram.new steps.new) }
     ensures serves { C.serves chunks.now span.now vram.new }
 {

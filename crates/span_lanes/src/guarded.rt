@@ -148,7 +148,7 @@ impl ChunkDrawer for RowSetup {
 
     ghost serves = { λ c s m. CanDraw s m × IsRowSetup s c };
 
-    ghost spared = { λ c. 0 };
+    ghost spared = { λ c k. 0 };
 
     #[inline(always)]
     fn draw_chunk<L: Ledger>(&self, vram: &mut Vram, chunk: &Chunk, steps: &mut Steps<L>) {

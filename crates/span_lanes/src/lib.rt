@@ -14,10 +14,14 @@
 
 mod attribute_ramps;
 mod blended;
+mod cacheable_rows;
 mod cached_clut;
+mod cached_clut256;
 mod chunk_loop;
 mod color_lanes;
+mod colored_clut256;
 mod contiguous_rows;
+mod contiguous_texel_rows;
 mod draw;
 mod guarded;
 mod guarded_triangle;
@@ -48,6 +52,8 @@ mod triangle_setup;
 mod untextured_lanes;
 mod untextured_rows;
 
+pub use cached_clut256::CachedClut256Rows;
+pub use contiguous_texel_rows::ContiguousRows;
 pub use rectangle_drawer::{AnyRows, CachedClutRows, RectangleDrawer, TexelRowsMethod};
 pub use row_drawer::RowDrawer;
 pub use span::{Brush, ClipRect, DrawState, Paint, Run, Span};

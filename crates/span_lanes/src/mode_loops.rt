@@ -1,5 +1,5 @@
 // Spans whose pixels are only blended: a loop for each blending mode.
-ghost use Rattle.std.specs.Prelude.{◌≡◌, IsTrue, true, false};
+ghost use Rattle.std.specs.Prelude.{◌≡◌, IsTrue, min, true, false};
 ghost use Rattle.span_lanes.specs.Draws.{DrawsSpan, at_stage};
 
 use crate::chunk_loop::{ChunkDrawer, draw_chunks};
@@ -49,7 +49,7 @@ fn draw_blended<C: ChunkDrawer, L: Ledger>(
     requires semi { span.now.brush.semi ≡ true }
     requires dither { span.now.brush.dither ≡ false }
     requires serves { C.serves chunks.now span.now vram.old }
-    ensures drawn { DrawsSpan span.now (C.spared chunks.now)
+    ensures drawn { DrawsSpan span.now (C.spared chunks.now (min span.now.n 16))
         (at_stage vram.old steps.old) (at_stage vram.new steps.new) }
     ensures serves { C.serves chunks.now span.now vram.new }
 {
@@ -71,7 +71,7 @@ pub(crate) fn draw_by_mode<C: ChunkDrawer, L: Ledger>(
     steps: &mut Steps<L>,
 )
     requires { C.serves chunks.now span.now vram.old }
-    ensures drawn { DrawsSpan span.now (C.spared chunks.now)
+    ensures drawn { DrawsSpan span.now (C.spared chunks.now (min span.now.n 16))
         (at_stage vram.old steps.old) (at_stage vram.new steps.new) }
     ensures serves { C.serves chunks.now span.now vram.new }
 {

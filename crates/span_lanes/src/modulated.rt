@@ -8,7 +8,7 @@ ghost use Rattle.span_lanes.specs.Shade.{IsSpan, modulated_texel};
 ghost use Rattle.span_lanes.specs.ColoredClut.{IsColoredClut, AreClutEntries, HasPalette, IsColoredBy, CanCacheClut};
 ghost use Rattle.texel_lanes.specs.Table.{entry_at};
 
-use crate::color_lanes::{ColorSource, DitherLanes, modulated_by, no_dither, one_color};
+use crate::color_lanes::{ColorSource, DitherLanes, modulated_by, one_color, undithered_by};
 use crate::guarded::RowSetup;
 use crate::shading::has_undithered_clut16;
 use crate::span::Chunk;
@@ -21,7 +21,7 @@ use vram_store::{Steps, Vram};
 // Returns sixteen texels, modulated by one colour without dither, or unchanged if `raw` is true.
 #[inline(always)]
 #[tactic(auto, unfolding(crate::specs::Shade::modulated_texel))]
-fn modulated_entries(raw: bool, color: u32, texels: u16x16) -> u16x16
+pub(crate) fn modulated_entries(raw: bool, color: u32, texels: u16x16) -> u16x16
     requires long { length texels ≡ 16 }
     ensures long { length result ≡ 16 }
     ensures value { EachLane (λ j. slice_index result j ≡ modulated_texel raw color (pos 0) (slice_index texels j)) }
@@ -29,7 +29,7 @@ fn modulated_entries(raw: bool, color: u32, texels: u16x16) -> u16x16
     if raw {
         texels
     } else {
-        modulated_by(texels, one_color(color), no_dither())
+        undithered_by(texels, one_color(color))
     }
 }
 
@@ -157,7 +157,7 @@ pub(crate) fn texels_by_index(
 // has no hazard and no dither.
 pub(crate) fn suits(span: &Span, row_setup: &RowSetup) -> bool
     requires row_setup { IsRowSetup span.now row_setup.now }
-    ensures { IsTrue result → CanCacheClut span.now row_setup.now.texture }
+    ensures { IsTrue result → CanCacheClut 0 span.now row_setup.now.texture }
 {
     let texture = &row_setup.texture;
     let even = has_undithered_clut16(texture, &span.brush);

@@ -137,9 +137,9 @@ impl TexelRowsMethod for CachedClutRows {
     ghost use Rattle.span_lanes.specs.ColoredClut.{IsCached};
     ghost use Rattle.span_lanes.specs.TexelRows.{CanCacheRows, texel_state};
 
-    ghost accepts = { CanCacheRows };
+    ghost accepts = { CanCacheRows 0 };
 
-    ghost ready = { λ method rows m. CanCacheRows rows × IsCached (texel_state rows 0).paint m method.last };
+    ghost ready = { λ method rows m. CanCacheRows 0 rows × IsCached (texel_state rows 0).paint m method.last };
 
     #[inline(always)]
     fn new(_rows: &TexelRows) -> CachedClutRows {

@@ -87,7 +87,7 @@ impl<'a> ChunkDrawer for GouraudTexels<'a> {
         × AreColorsOf s.paint c.ramps.now.colors
         × AreDitherLanesAt (s.brush.dither && not c.texture.now.raw) s.x s.y c.dither_lanes.lanes };
 
-    ghost spared = { λ c. 0 };
+    ghost spared = { λ c k. 0 };
 
     // If the chunk has at most eight cells, the other lanes are 0, so the compiler drops their computation.
     #[inline(always)]

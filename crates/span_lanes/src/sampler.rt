@@ -65,7 +65,7 @@ pub(crate) trait IndexSampler {
         requires finds { finds self.now chunk.now.span.now texture.now }
         requires chunk { IsChunk chunk.now }
         requires depth { texture.now.page.depth ≡ 0 }
-        ensures indexes { HasIndexes texture.now chunk.now vram.now result }
+        ensures indexes { HasIndexes texture.now 16 chunk.now vram.now result }
         ensures cost { steps.new ≤ steps.old + chunk.now.k };
 }
 
@@ -183,7 +183,7 @@ pub(crate) fn indexes_by_coords<P: CoordSource, L: Ledger>(
 ) -> u8x16
     requires can { CanRead texture.now chunk.now (P.places source.now chunk.now.span.now) vram.now }
     requires depth { texture.now.page.depth ≡ 0 }
-    ensures indexes { HasIndexes texture.now chunk.now vram.now result }
+    ensures indexes { HasIndexes texture.now 16 chunk.now vram.now result }
     ensures cost { steps.new ≤ steps.old + chunk.now.k }
 {
     let at = source.coordinates(chunk);

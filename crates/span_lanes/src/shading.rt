@@ -165,6 +165,15 @@ pub(crate) fn has_undithered_clut16(texture: &Texture, brush: &Brush) -> bool
     texture.page.depth == 0 && !is_dithered(brush.dither, texture.raw)
 }
 
+// Returns whether texels have eight bits, and are modulated but not dithered.
+pub(crate) fn has_modulated_clut256(texture: &Texture, brush: &Brush) -> bool
+    ensures depth { IsTrue result → texture.now.page.depth ≡ 1 }
+    ensures raw { IsTrue result → texture.now.raw ≡ false }
+    ensures even { IsTrue result → (brush.now.dither && not texture.now.raw) ≡ false }
+{
+    texture.page.depth == 1 && !texture.raw && !brush.dither
+}
+
 #[inline(always)]
 pub(crate) fn row_shading_of(span: &Span, texture: &Texture, row_colors: RowColors) -> RowShading
     requires span { IsSpan span.now }

@@ -2,14 +2,11 @@
 ghost use Rattle.std.specs.Prelude.{◌≡◌, ◌≤◌, ℕ, ◌+◌, IsTrue, false};
 ghost use Rattle.span_lanes.specs.Shade.{row_u};
 ghost use Rattle.texel_lanes.specs.Texture.{IsTexture};
-ghost use Rattle.span_lanes.specs.ClipRect.{IsClipRect};
 ghost use Rattle.span_lanes.specs.TexelRun.{IsTexelRun};
-ghost use Rattle.span_lanes.specs.TexelRows.{IsRowOf, CanCacheRows, texel_row, texel_span};
+ghost use Rattle.span_lanes.specs.TexelRows.{AreRowsContiguous, IsRowOf, texel_row, texel_span};
 
-use crate::rows_hazard_free::are_rows_hazard_free;
-use crate::shading::has_undithered_clut16;
 use crate::span::{is_opaque, opaque_brush};
-use crate::texel_run::{TexelRun, does_not_wrap, is_unwindowed, run_at_coords};
+use crate::texel_run::{TexelRun, run_at_coords};
 use crate::texel_run_rows::with_raw;
 use crate::{Brush, ClipRect, Paint, Span, Texture};
 
@@ -110,29 +107,11 @@ impl TexelRows {
     // Returns where the contiguous texels of row `v` of the page are, for any row of the clip rectangle.
     #[inline(always)]
     pub(crate) fn texel_run(&self, v: u8) -> TexelRun
-        requires keeps { CanCacheRows self.now }
+        requires keeps { AreRowsContiguous self.now }
         requires texture { IsTexture self.now.texture }
         ensures { (y : ℕ) → IsTexelRun (texel_span self.now y v) self.now.texture result }
     {
         run_at_coords(&self.texture, self.u, v)
-    }
-
-    /// Returns true only if the texels of each row are contiguous, their CLUT has sixteen entries and can be modulated
-    /// once, and no row has a hazard. [`CachedClutRows`](crate::CachedClutRows) draws such rows, and
-    /// [`AnyRows`](crate::AnyRows) all.
-    pub fn can_cache_clut(&self) -> bool
-        requires clip_rect { IsClipRect 1024 self.now.clip_rect }
-        requires texture { IsTexture self.now.texture }
-        ensures { IsTrue result → CanCacheRows self.now }
-    {
-        let n = self.clip_rect.w;
-        if self.flip
-            || !has_undithered_clut16(&self.texture, &self.brush)
-            || !is_unwindowed(&self.texture, self.u, n)
-        {
-            return false;
-        }
-        does_not_wrap(&self.texture, self.u as u16, n) && are_rows_hazard_free(self)
     }
 
     /// Returns these rows. The compiler then knows whether they are raw, and makes a loop for that case.

@@ -1,4 +1,9 @@
 // Samplers of contiguous texels, one for each depth.
+ghost use Rattle.std.specs.Prelude.{◌≡◌, ◌≤◌, ◌+◌};
+ghost use Rattle.span_lanes.specs.CachedClut.{HasIndexes};
+ghost use Rattle.span_lanes.specs.Draws.{CanSample, IsChunk};
+ghost use Rattle.span_lanes.specs.TexelRun.{IsTexelRun};
+
 use crate::Texture;
 use crate::sampler::{IndexSampler, Sampler};
 use crate::span::Chunk;
@@ -44,6 +49,29 @@ pub(crate) struct EightBitRun {
     pub(crate) texel_run: TexelRun,
 }
 
+impl EightBitRun {
+    // Returns the CLUT indexes of a chunk's texels in the first `chunk.k` lanes. All sixteen are below 256. Costs at
+    // most one step.
+    #[inline(always)]
+    pub(crate) fn read_octets<L: Ledger>(
+        &self,
+        vram: &Vram,
+        texture: &Texture,
+        chunk: &Chunk,
+        steps: &mut Steps<L>,
+    ) -> u16x16
+        requires sample { CanSample chunk.now.span.now texture.now vram.now }
+        requires finds { IsTexelRun chunk.now.span.now texture.now self.now.texel_run }
+        requires chunk { IsChunk chunk.now }
+        requires depth { texture.now.page.depth ≡ 1 }
+        ensures indexes { HasIndexes texture.now 256 chunk.now vram.now result }
+        ensures cost { steps.new ≤ steps.old + 1 }
+    {
+        let TexelRun { u, y } = self.texel_run;
+        sixteen_octets(vram, texture.page.x, u + chunk.first, y, steps)
+    }
+}
+
 impl Sampler for EightBitRun {
     ghost use Rattle.std.specs.Prelude.{◌≡◌};
     ghost use Rattle.span_lanes.specs.TexelRun.{IsTexelRun};
@@ -58,8 +86,7 @@ impl Sampler for EightBitRun {
         chunk: &Chunk,
         steps: &mut Steps<L>,
     ) -> u16x16 {
-        let TexelRun { u, y } = self.texel_run;
-        let index = sixteen_octets(vram, texture.page.x, u + chunk.first, y, steps);
+        let index = self.read_octets(vram, texture, chunk, steps);
         gather_entries::<OneByOne, L>(vram, texture.clut, index, chunk.k, steps)
     }
 }

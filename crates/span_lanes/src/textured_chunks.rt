@@ -143,7 +143,7 @@ impl<S: Sampler> ChunkDrawer for Raw<S> {
 
     ghost serves = { λ c s m. CanTakeTexels s c.texture (S.finds c.sampler s c.texture) m × (c.texture.raw ≡ true) };
 
-    ghost spared = { λ c. 0 };
+    ghost spared = { λ c k. 0 };
 
     #[inline(always)]
     fn draw_chunk<L: Ledger>(&self, vram: &mut Vram, chunk: &Chunk, steps: &mut Steps<L>) {
@@ -165,7 +165,7 @@ impl<S: Sampler> ChunkDrawer for Shaded<S> {
     ghost serves = { λ c s m.
         CanTakeTexels s c.texture (S.finds c.sampler s c.texture) m × IsRowShading s c.texture c.shading };
 
-    ghost spared = { λ c. 0 };
+    ghost spared = { λ c k. 0 };
 
     #[inline(always)]
     fn draw_chunk<L: Ledger>(&self, vram: &mut Vram, chunk: &Chunk, steps: &mut Steps<L>) {
@@ -182,7 +182,7 @@ impl<S: IndexSampler> ChunkDrawer for CachedClut<'_, S> {
     ghost serves = { λ c s m. CanUseCached s c.texture (S.finds c.sampler s c.texture) c.colored_clut.now m };
 
     // The CLUT is not read again.
-    ghost spared = { λ c. 1 };
+    ghost spared = { λ c k. 1 };
 
     #[inline(always)]
     fn draw_chunk<L: Ledger>(&self, vram: &mut Vram, chunk: &Chunk, steps: &mut Steps<L>) {

@@ -37,7 +37,7 @@ impl ChunkDrawer for FlatCells {
 
     ghost serves = { λ c s m. CanDrawFlat s c.color c.dither_lanes.lanes m };
 
-    ghost spared = { λ c. 0 };
+    ghost spared = { λ c k. 0 };
 
     ghost can = { λ c s m serves. serves.span.can };
 
@@ -61,7 +61,7 @@ impl ChunkDrawer for GouraudCells<'_> {
 
     ghost serves = { λ c s m. CanDrawGouraud s c.ramps.now c.dither_lanes.lanes m };
 
-    ghost spared = { λ c. 0 };
+    ghost spared = { λ c k. 0 };
 
     ghost can = { λ c s m serves. serves.span.can };
 
@@ -152,7 +152,7 @@ impl ChunkDrawer for Solid {
 
     ghost serves = { λ c s m. CanFill s c.h m };
 
-    ghost spared = { λ c. 0 };
+    ghost spared = { λ c k. 0 };
 
     #[inline(always)]
     fn draw_chunk<L: Ledger>(&self, vram: &mut Vram, chunk: &Chunk, steps: &mut Steps<L>) {

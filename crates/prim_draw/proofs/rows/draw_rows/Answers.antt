@@ -1,7 +1,6 @@
-use Rattle.std.proofs.Common.{ℕ, ◌≡◌, ◌+◌, ◌∙◌, ap, sym, subst, arith, List, IfSome}
+use Rattle.std.proofs.Common.{ℕ, ◌≡◌, ◌+◌, ◌∙◌, ap, sym, subst, arith, List}
 use Rattle.px_num.specs.declared.shape.Cell.{Cell}
 use Rattle.span_lanes.specs.declared.span.ClipRect.{ClipRect}
-use Rattle.span_lanes.specs.declared.span.Run.{Run}
 use Rattle.span_lanes.specs.Draws.{CanDraw}
 use Rattle.span_lanes.specs.Pattern.{Pattern, run_span}
 use Rattle.span_lanes.proofs.ChunkDrawLemmas.{draw_stays}

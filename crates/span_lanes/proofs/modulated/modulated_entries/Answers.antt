@@ -9,6 +9,6 @@ returns-clause-value c j lane = elim c.if-raw.branch [
   | then-raw w ↦ rw (w.result-is, w.if-raw.true) refl
   | else-raw w ↦
       let colors = w.one_color.ensures 16 (omega arith) in
-      let value = rw (w.no_dither.ensures.value j lane) at (w.modulated_by.ensures.value j lane) in
+      let value = w.undithered_by.ensures.value j lane in
       rw (w.result-is, w.if-raw.false, colors.red j lane, colors.green j lane, colors.blue j lane) value
 ]

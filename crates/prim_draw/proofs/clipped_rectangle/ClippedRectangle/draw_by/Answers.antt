@@ -1,10 +1,9 @@
-use Rattle.std.proofs.Common.{◌≡◌, ◌∙◌, sym, ap, subst, ℕ}
+use Rattle.std.proofs.Common.{◌∙◌, sym, ap, subst}
 use Rattle.vram_store.specs.Vram.{height_of}
 use Rattle.span_lanes.specs.Draws.{CanDraw}
 use Rattle.span_lanes.specs.Pattern.{run_span}
 use Rattle.span_lanes.specs.TexelRows.{IsWholeRow, rows_pattern}
 use Rattle.span_lanes.specs.declared.span.ClipRect.{ClipRect}
-use Rattle.span_lanes.specs.declared.span.Run.{Run}
 use Rattle.span_lanes.specs.declared.span.Span.{Span}
 use Rattle.span_lanes.specs.declared.texel_rows.TexelRows.{TexelRows}
 use Rattle.prim_draw.specs.ClippedRectangle.{rectangle_pattern}

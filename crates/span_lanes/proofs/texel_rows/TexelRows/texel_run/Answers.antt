@@ -1,4 +1,4 @@
-use Rattle.std.proofs.Common.{refl, arith}
+use Rattle.std.proofs.Common.{refl}
 use Rattle.span_lanes.specs.TexelRows.{texel_span}
 use Rattle.span_lanes.proofs.TexelRunLemmas.{rising_stretch, row_rising}
 use Rattle.span_lanes.proofs.texel_rows.TexelRows.texel_run.Goals as goal
@@ -12,6 +12,4 @@ returns c y =
     rising_stretch span t rows.u c.args.v _
     (row_rising span t rows.color rows.u c.args.v rows.flip refl is.rises) is.clear c.run_at_coords.ensures.column
     c.run_at_coords.ensures.row c.run_at_coords.ensures.low is.in_page
-    (λ deep. absurd (omega (arith, deep, is.depth)))
-    (λ eight. absurd (omega (arith, eight, is.depth)))
-    (λ four. is.fours)
+    is.wholes is.eights is.fours

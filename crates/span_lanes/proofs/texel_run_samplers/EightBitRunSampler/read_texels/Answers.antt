@@ -1,26 +1,8 @@
-use Rattle.std.proofs.Common.{◌≡◌, ◌<◌, ◌+◌, arith}
-use Rattle.span_lanes.proofs.TexelRunLemmas.{eight_texel}
+use Rattle.std.proofs.Common.{◌∙◌}
 use Rattle.span_lanes.proofs.texel_run_samplers.EightBitRunSampler.read_texels.Goals as goal
-
-pub sixteen_octets-index-requires-clause-in_row : goal.sixteen_octets-index-requires-clause-in_row
-sixteen_octets-index-requires-clause-in_row g c =
-    let room = c.requires.finds.0.eights c.requires.finds.1 in
-    omega (arith, room)
 
 pub returns-clause-texels : goal.returns-clause-texels
 returns-clause-texels g c = record {
   long = c.gather_entries.ensures.long;
-  value = λ j lt.
-      let lane : j < 16 = omega arith in
-      let s = c.args.self.now.texel_run in
-      let column : s.u + c.args.chunk.now.first + j ≡ s.u + (c.args.chunk.now.first + j) = omega arith in
-      let position = rw column at (c.sixteen_octets-index.ensures.value j lane) in
-      eight_texel c.args.chunk.now.span.now c.args.texture.now s _ (c.args.chunk.now.first + j) _ c.args.vram.now
-      c.requires.finds.0 c.requires.finds.1 (omega arith) (omega arith)
-      (rw position at (c.gather_entries.ensures.value j lt));
+  value = λ j lt. c.gather_entries.ensures.value j lt ∙ c.read_octets-index.ensures.indexes.entry j lt;
 }
-
-pub sixteen_octets-index-requires-clause-in_height : goal.sixteen_octets-index-requires-clause-in_height
-sixteen_octets-index-requires-clause-in_height g c =
-    let page = rw c.requires.sample.texture at c.requires.sample.can.lies.page in
-    omega (arith, page, c.requires.finds.0.low)

@@ -1,4 +1,4 @@
-use Rattle.std.proofs.Common.{◌≡◌, ◌+◌, ◌&&◌, not, ℕ, ◌<◌, ◌∙◌, arith}
+use Rattle.std.proofs.Common.{◌≡◌, ◌+◌, ◌&&◌, not, ℕ, ◌<◌, ◌∙◌, refl, arith}
 use Rattle.span_lanes.proofs.ColorLemmas.{no_shift}
 use Rattle.span_lanes.proofs.ColoredClutLemmas.{clut_missed, swatches_kept}
 use Rattle.span_lanes.proofs.PlanLemmas.{apart_cost}
@@ -52,8 +52,8 @@ returns-clause-serves g c =
     let is = c.requires.serves in
     let part = c.requires.chunk in
     let chunk = c.args.chunk.now in
-    let none = clut_missed chunk.span.now c.args.self.now.texture chunk.first chunk.k is.can.sample.texture
-    is.can.suits.depth (is.can.suits.hazard_free.free chunk.first chunk.k part.cut part.few part.within) in
+    let none = clut_missed chunk.span.now c.args.self.now.texture chunk.first chunk.k 16 is.can.sample.texture
+    (rw is.can.suits.depth refl) (is.can.suits.hazard_free.free chunk.first chunk.k part.cut part.few part.within) in
     record {
       can = record {
         sample = sample_stays is.can.sample c.draw_texels.ensures.others.count;

@@ -5,7 +5,7 @@ use Rattle.span_lanes.specs.Pattern.{Pattern, run_span, uniform}
 use Rattle.span_lanes.specs.declared.span.DrawState.{DrawState}
 use Rattle.prim_draw.specs.ClippedRectangle.{rectangle_pattern}
 use Rattle.prim_draw.proofs.RectLemmas.{flat_pattern, rectangle_can_draw, rectangle_paints}
-use Rattle.prim_draw.proofs.clipped_rectangle.ClippedRectangle.draw_flat.Goals as goal
+use Rattle.prim_draw.proofs.clipped_rectangle.ClippedRectangle.draw_spans.Goals as goal
 
 pub draw_rows-requires-clause-can : goal.draw_rows-requires-clause-can
 draw_rows-requires-clause-can g c y run whole = (
