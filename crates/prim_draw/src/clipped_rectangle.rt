@@ -1,19 +1,17 @@
 // Rectangles in a clip rectangle.
-ghost use Rattle.std.specs.Prelude.{◌≡◌, pos, ◌-ℤ◌, unsigned_abs, None};
+ghost use Rattle.std.specs.Prelude.{◌≡◌, pos, ◌-ℤ◌, unsigned_abs};
 ghost use Rattle.vram_store.specs.Vram.{height_of};
 ghost use Rattle.span_lanes.specs.ClipRect.{IsClipRect};
 ghost use Rattle.span_lanes.specs.Shade.{row_u};
 ghost use Rattle.span_lanes.specs.TexelRows.{AreRowsContiguous, CanCacheRows, CanCacheRows256};
 ghost use Rattle.prim_draw.specs.Rectangles.{IsExtent, IsPartOf};
-ghost use Rattle.prim_draw.specs.Solids.{IsEven, flat_state, solid_state};
 ghost use Rattle.prim_draw.specs.ClippedRectangle.{AreTexelsOf, CanDrawRectangle, DrawsRectangle, texels_of};
 
 use crate::rectangles::{Extent, RectangleSetup};
 use crate::rows::{ClipRectRows, draw_rows};
-use crate::solid::{Solid, solid_flat};
 use span_lanes::{
-    AnyRows, CachedClut256Rows, CachedClutRows, ClipRect, ContiguousRows, DrawState, Paint,
-    RectangleDrawer, SpanDrawer, TexelRows, TexelRowsMethod, Texture, row_u,
+    AnyRows, CachedClut256Rows, CachedClutRows, ClipRect, ContiguousRows, RectangleDrawer,
+    TexelRows, TexelRowsMethod, Texture, row_u,
 };
 use std::sync::ledger::Ledger;
 use vram_store::{Steps, Vram};
@@ -150,56 +148,6 @@ impl ClippedRectangle<'_> {
             (record { m = vram.old; steps = steps.old }) (record { m = vram.new; steps = steps.new }) }
     {
         self.draw_by::<ContiguousRows, L>(rows, vram, steps);
-    }
-
-    // Draws cells without a texture that all become the same halfword.
-    fn draw_solid<L: Ledger>(&self, solid: Solid, vram: &mut Vram, steps: &mut Steps<L>)
-        requires can { CanDrawRectangle (height_of vram.old) self.now }
-        requires flat { self.now.rectangle_setup.now.texture ≡ None }
-        requires uniform { IsEven solid }
-        requires state { solid_state solid
-            ≡ flat_state self.now.rectangle_setup.now.color self.now.rectangle_setup.now.brush }
-        ensures { DrawsRectangle self.now
-            (record { m = vram.old; steps = steps.old }) (record { m = vram.new; steps = steps.new }) }
-    {
-        let mut rows = ClipRectRows {
-            clip_rect: *self.clip_rect,
-        };
-        let mut drawer = solid;
-        draw_rows(vram, &mut rows, &mut drawer, steps);
-    }
-
-    // Draws any cells without a texture.
-    fn draw_spans<L: Ledger>(&self, vram: &mut Vram, steps: &mut Steps<L>)
-        requires can { CanDrawRectangle (height_of vram.old) self.now }
-        requires flat { self.now.rectangle_setup.now.texture ≡ None }
-        ensures { DrawsRectangle self.now
-            (record { m = vram.old; steps = steps.old }) (record { m = vram.new; steps = steps.new }) }
-    {
-        let state = DrawState {
-            paint: Paint::Flat {
-                color: self.rectangle_setup.color,
-            },
-            brush: self.rectangle_setup.brush,
-        };
-        let mut rows = ClipRectRows {
-            clip_rect: *self.clip_rect,
-        };
-        let mut drawer = SpanDrawer::new(&state);
-        draw_rows(vram, &mut rows, &mut drawer, steps);
-    }
-
-    // Draws a rectangle without a texture.
-    fn draw_flat<L: Ledger>(&self, vram: &mut Vram, steps: &mut Steps<L>)
-        requires can { CanDrawRectangle (height_of vram.old) self.now }
-        requires flat { self.now.rectangle_setup.now.texture ≡ None }
-        ensures { DrawsRectangle self.now
-            (record { m = vram.old; steps = steps.old }) (record { m = vram.new; steps = steps.new }) }
-    {
-        match solid_flat(self.rectangle_setup.color, &self.rectangle_setup.brush) {
-            Some(solid) => self.draw_solid(solid, vram, steps),
-            None => self.draw_spans(vram, steps),
-        }
     }
 
     /// Draws the cells of the clip rectangle.

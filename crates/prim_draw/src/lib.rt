@@ -10,6 +10,7 @@ mod area;
 mod boxes;
 mod clipped_rectangle;
 mod clipped_triangle;
+mod flat_rectangle;
 pub mod laws;
 mod lines;
 mod point;

@@ -6,7 +6,8 @@ use Rattle.span_lanes.specs.Draws.{DrawsSpan}
 use Rattle.span_lanes.specs.Pattern.{run_span}
 use Rattle.span_lanes.specs.SpanDrawer.{DrawsCells}
 use Rattle.span_lanes.specs.Guard.{IsHazardFree}
-use Rattle.span_lanes.specs.TexelRows.{AreRowsContiguous, CanCacheRows, CanDrawTexels, IsWholeRow, rows_pattern, texel_row, texel_span}
+use Rattle.span_lanes.specs.TexelRows.{AreRowsContiguous, CanCacheRows, CanDrawTexels, IsWholeRow}
+use Rattle.span_lanes.specs.TexelRows.{rows_pattern, texel_row, texel_span}
 use Rattle.span_lanes.specs.TexelRun.{IsTexelRun}
 use Rattle.span_lanes.specs.declared.span.Run.{Run}
 use Rattle.span_lanes.specs.declared.span.Span.{Span}
@@ -40,17 +41,14 @@ can_take_row rows y v texel_run m contiguous asked finds = record {
 }
 
 -- a row whose CLUT can be modulated once for all rows
-pub can_color_row : (d : ℕ) (rows : TexelRows) (y v : ℕ) (texel_run : TexelRun) (m : List ℕ) → CanCacheRows d rows
-    → CanDrawTexels rows y v m → IsTexelRun (texel_span rows y v) rows.texture texel_run
-    → CanColorClut d (texel_span rows y v) rows.texture (IsTexelRun (texel_span rows y v) rows.texture texel_run)
-    rows.color m
-can_color_row d rows y v texel_run m keeps asked finds = record {
+pub can_color_row : (d : ℕ) (rows : TexelRows) (y v : ℕ) (m : List ℕ) → CanCacheRows d rows
+    → CanDrawTexels rows y v m → CanColorClut d (texel_span rows y v) rows.texture rows.color m
+can_color_row d rows y v m keeps asked = record {
   sample = record { can = asked.can; texture = refl };
   suits = record {
     hazard_free = row_hazard_free rows y v m keeps.contiguous asked;
     depth = keeps.depth;
     even = keeps.even;
   };
-  finds = finds;
   hue = λ at j lane lt. refl;
 }

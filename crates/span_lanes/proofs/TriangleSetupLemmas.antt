@@ -11,8 +11,6 @@ use Rattle.span_lanes.specs.SpanDrawer.{state_of}
 use Rattle.span_lanes.specs.Shade.{texture_of}
 use Rattle.span_lanes.specs.Draws.{CanDraw}
 use Rattle.span_lanes.specs.TriangleSetup.{CanDrawSetup, IsSetupOf}
-use Rattle.span_lanes.specs.TexelRun.{IsTexelRun}
-use Rattle.span_lanes.specs.declared.texel_run.TexelRun.{TexelRun}
 
 -- a row in a clip rectangle that has no cell of the texture can be drawn
 pub can_draw_free : (b : ClipRect) (span : Span) (m : List ℕ) → IsFreeIn span.paint b → CanDraw span m
@@ -28,17 +26,14 @@ pub can_draw_row : (setup : TriangleSetup) (span : Span) (m : List ℕ) → IsSe
 can_draw_row setup span m ready row = record { ready = ready; can = row.can; hazard_free = row.hazard_free }
 
 -- and under its colour, if the CLUT can be coloured once
-pub can_color_row : (setup : TriangleSetup) (span : Span) (m : List ℕ) (color : ℕ) (texel_run : TexelRun)
-    → CanDrawSetup setup span m → CanCacheTriangle setup.tri setup.texture setup.brush color
-    → IsTexelRun span setup.texture texel_run
-    → CanColorClut 0 span setup.texture (IsTexelRun span setup.texture texel_run) color m
-can_color_row setup span m color texel_run can suits finds = record {
+pub can_color_row : (setup : TriangleSetup) (span : Span) (m : List ℕ) (color : ℕ) → CanDrawSetup setup span m
+    → CanCacheTriangle setup.tri setup.texture setup.brush color → CanColorClut 0 span setup.texture color m
+can_color_row setup span m color can suits = record {
   sample = record { can = can.can; texture = ap texture_of can.ready.paint };
   suits = record {
     hazard_free = can.hazard_free;
     depth = suits.depth;
     even = rw can.ready.brush suits.even;
   };
-  finds = finds;
   hue = one_hues span.paint color span.x span.y span.n (rw can.ready.paint suits.one) can.can.span.inside;
 }

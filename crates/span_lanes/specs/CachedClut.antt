@@ -21,23 +21,23 @@ pub record CanTakeTexels (s : Span) (t : Texture) (found : Type 0) (m : List ℕ
   pub hazard_free : IsHazardFree s
   pub finds : found
 
--- such a span of one colour and texels of this depth whose CLUT can be modulated once
-pub record CanColorClut (d : ℕ) (s : Span) (t : Texture) (found : Type 0) (color : ℕ) (m : List ℕ) : Type 0 where
+-- a span of one colour and texels of this depth whose CLUT can be modulated once
+pub record CanColorClut (d : ℕ) (s : Span) (t : Texture) (color : ℕ) (m : List ℕ) : Type 0 where
   pub sample : CanSample s t m
   pub suits : CanCacheClut d s t
-  pub finds : found
   pub hue : AreRowColors s.paint s.x s.y s.n (One color)
 
--- such a span whose modulated CLUT of sixteen entries is cached
+-- such a span whose modulated CLUT of sixteen entries is cached; `found` states that its texels can be found
 pub record CanUseCached (s : Span) (t : Texture) (found : Type 0) (cached : ColoredClut) (m : List ℕ) : Type 0 where
-  pub can : CanColorClut 0 s t found cached.color m
+  pub can : CanColorClut 0 s t cached.color m
+  pub finds : found
   pub raw : cached.raw ≡ t.raw
   pub colored : IsColoredClut cached
   pub entries : IsColoredClutOf t m cached
 
 -- such a span whose modulated CLUT of 256 entries is cached
-pub record CanUseCached256 (s : Span) (t : Texture) (found : Type 0) (color : ℕ) (words m : List ℕ) : Type 0 where
-  pub can : CanColorClut 1 s t found color m
+pub record CanUseCached256 (s : Span) (t : Texture) (color : ℕ) (words m : List ℕ) : Type 0 where
+  pub can : CanColorClut 1 s t color m
   pub entries : IsColoredClut256Of t m color words
 
 -- sixteen indexes of a CLUT of n entries, the first of them those of the texels of a chunk

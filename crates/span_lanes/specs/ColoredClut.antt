@@ -17,7 +17,7 @@ abbrev pub AreEntriesOf : Texture → (m : List ℕ) → (n : ℕ) → (entry : 
 AreEntriesOf t m n entry = (i : ℕ) → i < n → entry i ≡ at_cell m (clut_place t.clut i)
 
 -- the first n entries, each modulated by one colour without dither
-abbrev pub AreModulatedBy : (raw : Bool) (color n : ℕ) (entry modulated : ℕ → ℕ) → Type 0
+abbrev pub AreModulatedBy : (raw : Bool) → (color n : ℕ) → (entry modulated : ℕ → ℕ) → Type 0
 AreModulatedBy raw color n entry modulated =
     (i : ℕ) → i < n → modulated i ≡ modulated_texel raw color (pos 0) (entry i)
 

@@ -33,9 +33,9 @@ impl TexelRows {
         does_not_wrap(&self.texture, self.u as u16, n) && are_rows_hazard_free(self)
     }
 
-    /// Returns whether the CLUT of contiguous rows can be modulated once, and is worth it. A CLUT of sixteen entries is,
-    /// unless pixels are dithered: [`CachedClutRows`](crate::CachedClutRows) draws such rows. A CLUT of 256 entries is
-    /// only if also texels are not raw and the clip rectangle has at least 512 cells, in rows of at least sixteen:
+    /// Returns whether the CLUT of contiguous rows can be modulated once, and is worth it. A CLUT of sixteen entries
+    /// is, unless pixels are dithered: [`CachedClutRows`](crate::CachedClutRows) draws such rows. A CLUT of 256 entries
+    /// is only if also texels are not raw and the clip rectangle has at least 512 cells, in rows of at least sixteen:
     /// [`CachedClut256Rows`](crate::CachedClut256Rows) draws such rows.
     #[inline(always)]
     pub fn has_cacheable_clut(&self) -> bool

@@ -54,8 +54,8 @@ pub(crate) fn draw_cached<S: IndexSampler + Copy, L: Ledger>(
     last: &mut Option<ColoredClut>,
     steps: &mut Steps<L>,
 )
-    requires can { CanColorClut 0 span.now texels.now.texture.now
-        (S.finds texels.now.sampler span.now texels.now.texture.now) texels.now.color vram.old }
+    requires can { CanColorClut 0 span.now texels.now.texture.now texels.now.color vram.old }
+    requires finds { S.finds texels.now.sampler span.now texels.now.texture.now }
     requires last { IsCached span.now.paint vram.old last.old }
     ensures drawn { DrawsSpan span.now 0 (at_stage vram.old steps.old) (at_stage vram.new steps.new) }
     ensures last { IsCached span.now.paint vram.new last.new }
@@ -99,8 +99,8 @@ pub(crate) fn draw_cached_run<L: Ledger>(
     last: &mut Option<ColoredClut>,
     steps: &mut Steps<L>,
 )
-    requires can { CanColorClut 0 span.now texels.now.texture.now
-        (IsTexelRun span.now texels.now.texture.now texels.now.sampler) texels.now.color vram.old }
+    requires can { CanColorClut 0 span.now texels.now.texture.now texels.now.color vram.old }
+    requires finds { IsTexelRun span.now texels.now.texture.now texels.now.sampler }
     requires last { IsCached span.now.paint vram.old last.old }
     ensures drawn { DrawsSpan span.now 0 (at_stage vram.old steps.old) (at_stage vram.new steps.new) }
     ensures last { IsCached span.now.paint vram.new last.new }

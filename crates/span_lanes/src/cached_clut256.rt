@@ -8,7 +8,7 @@ use crate::colored_clut256::{color_clut256, texels_by_octet};
 use crate::span::Chunk;
 use crate::texel_run_samplers::EightBitRun;
 use crate::textured_chunks::draw_texels;
-use crate::{TexelRows, TexelRowsMethod, Texture};
+use crate::{RowAt, TexelRows, TexelRowsMethod, Texture};
 use std::sync::ledger::Ledger;
 use vram_store::{Steps, Vram};
 
@@ -28,7 +28,7 @@ impl ChunkDrawer for CachedClut256<'_> {
     ghost use Rattle.span_lanes.specs.TexelRun.{IsTexelRun};
 
     ghost serves = { λ c s m.
-        CanUseCached256 s c.texture (IsTexelRun s c.texture c.sampler.texel_run) c.color c.words.now m };
+        CanUseCached256 s c.texture c.color c.words.now m × IsTexelRun s c.texture c.sampler.texel_run };
 
     // The entry of each texel is not read again.
     ghost spared = { λ c k. k };
@@ -40,7 +40,7 @@ impl ChunkDrawer for CachedClut256<'_> {
         draw_texels(vram, &self.texture, drawn, chunk, steps);
     }
 
-    ghost can = { λ c s m serves. serves.can.sample.can };
+    ghost can = { λ c s m serves. serves.0.can.sample.can };
 }
 
 /// Contiguous texels of eight bits, in rows without a hazard: the CLUT is modulated once.
@@ -88,19 +88,18 @@ impl TexelRowsMethod for CachedClut256Rows {
         &mut self,
         vram: &mut Vram,
         rows: &TexelRows,
-        y: u16,
-        v: u8,
+        at: RowAt,
         steps: &mut Steps<L>,
     ) {
         self.fill(vram, rows, steps);
         let chunks = CachedClut256 {
             texture: rows.texture,
             sampler: EightBitRun {
-                texel_run: rows.texel_run(v),
+                texel_run: rows.texel_run(at.v),
             },
             color: rows.color,
             words: &self.words,
         };
-        draw_chunks(vram, &rows.span(y, v), &chunks, steps);
+        draw_chunks(vram, &rows.span(at), &chunks, steps);
     }
 }

@@ -37,29 +37,29 @@ fn store_piece(words: &mut [u32; 256], piece: u16, entries: [u16; 16], modulated
     }
 }
 
-// Reads entries `16 * piece` to `16 * piece + 15` of the texture's CLUT, and stores them and the same modulated by
-// `color`. Costs at most one step.
+// Returns entries `16 * piece` to `16 * piece + 15` of the texture's CLUT, and the same modulated by `color`. Costs at
+// most one step.
 #[inline(always)]
 fn color_piece<L: Ledger>(
     vram: &Vram,
     texture: &Texture,
     color: u32,
     piece: u16,
-    words: &mut [u32; 256],
     steps: &mut Steps<L>,
-)
+) -> ModulatedTexels
     requires { piece < 16 }
-    ensures long { length words.new ≡ 256 }
-    ensures entry { EachLane (λ i. entry_in words.new (16 * piece + i)
+    ensures long { (length result.texels ≡ 16) × (length result.modulated ≡ 16) }
+    ensures entry { EachLane (λ i. slice_index result.texels i
         ≡ at_cell vram.now (clut_place texture.now.clut (16 * piece + i))) }
-    ensures front { EachLane (λ i. modulated_in words.new (16 * piece + i)
-        ≡ modulated_texel texture.now.raw color (pos 0) (entry_in words.new (16 * piece + i))) }
-    ensures others { (i : ℕ) → i < 16 * piece → slice_index words.new i ≡ slice_index words.old i }
+    ensures front { EachLane (λ i. slice_index result.modulated i
+        ≡ modulated_texel texture.now.raw color (pos 0) (slice_index result.texels i)) }
     ensures cost { steps.new ≤ steps.old + 1 }
 {
-    let entries = sixteen_entries(vram, clut_from(texture.clut, piece), steps);
-    let modulated = modulated_entries(texture.raw, color, entries);
-    store_piece(words, piece, entries.to_array(), modulated.to_array());
+    let texels = sixteen_entries(vram, clut_from(texture.clut, piece), steps);
+    ModulatedTexels {
+        texels,
+        modulated: modulated_entries(texture.raw, color, texels),
+    }
 }
 
 // Makes `words` the texture's CLUT, modulated by `color`, or unchanged if the texture is raw. Costs at most sixteen
@@ -76,7 +76,8 @@ pub(crate) fn color_clut256<L: Ledger>(
     ensures cost { steps.new ≤ steps.old + 16 }
 {
     for piece in 0..16 {
-        color_piece(vram, texture, color, piece, words, steps);
+        let ModulatedTexels { texels, modulated } = color_piece(vram, texture, color, piece, steps);
+        store_piece(words, piece, texels.to_array(), modulated.to_array());
     }
 }
 

@@ -1,7 +1,7 @@
 // Rows of contiguous texels of a rectangle.
 use crate::shading::Shading;
 use crate::texel_run_rows::{draw_texel_run, sampler_of};
-use crate::{TexelRows, TexelRowsMethod};
+use crate::{RowAt, TexelRows, TexelRowsMethod};
 use std::sync::ledger::Ledger;
 use vram_store::{Steps, Vram};
 
@@ -26,12 +26,11 @@ impl TexelRowsMethod for ContiguousRows {
         &mut self,
         vram: &mut Vram,
         rows: &TexelRows,
-        y: u16,
-        v: u8,
+        at: RowAt,
         steps: &mut Steps<L>,
     ) {
-        let span = rows.span(y, v);
-        let found = sampler_of(&rows.texture, rows.texel_run(v));
+        let span = rows.span(at);
+        let found = sampler_of(&rows.texture, rows.texel_run(at.v));
         let shading = Shading::OneColor { color: rows.color };
         draw_texel_run(vram, &span, &found, &shading, steps);
     }

@@ -62,6 +62,6 @@ pub use texel_lanes::Texture;
 pub use texel_methods::{
     CachedClutMethod, ContiguousMethod, FlatTexelsMethod, GouraudTexelsMethod,
 };
-pub use texel_rows::{TexelRows, row_u};
+pub use texel_rows::{RowAt, TexelRows, row_u};
 pub use triangle_drawer::{RowMethod, TexelMethod, TriangleDrawer, row_method};
 pub use untextured_rows::{draw_solid, solid_of};

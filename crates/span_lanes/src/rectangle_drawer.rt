@@ -7,7 +7,7 @@ use crate::draw::draw_row;
 use crate::modulated::ColoredClut;
 use crate::sampler::FlatTexels;
 use crate::texel_rows::TexelRow;
-use crate::{RowDrawer, Run, TexelRows};
+use crate::{RowAt, RowDrawer, Run, TexelRows};
 use std::sync::ledger::Ledger;
 use vram_store::{Steps, Vram};
 
@@ -29,18 +29,17 @@ pub trait TexelRowsMethod: Drop {
         requires { accepts rows.now }
         ensures { (m : List ℕ) → ready result rows.now m };
 
-    /// Draws row `y` of the clip rectangle. Its texels must be those of row `v` of the page.
+    /// Draws row `at.y` of the clip rectangle. Its texels must be those of row `at.v` of the page.
     fn draw_row<L: Ledger>(
         &mut self,
         vram: &mut Vram,
         rows: &TexelRows,
-        y: u16,
-        v: u8,
+        at: RowAt,
         steps: &mut Steps<L>,
     )
-        requires can { CanDrawTexels rows.now y v vram.old }
+        requires can { CanDrawTexels rows.now at.y at.v vram.old }
         requires ready { ready self.old rows.now vram.old }
-        ensures drawn { DrawsSpan (texel_span rows.now y v) 0
+        ensures drawn { DrawsSpan (texel_span rows.now at.y at.v) 0
             (at_stage vram.old steps.old) (at_stage vram.new steps.new) }
         ensures ready { ready self.new rows.now vram.new };
 }
@@ -82,7 +81,8 @@ impl<M: TexelRowsMethod> RowDrawer for RectangleDrawer<M> {
     #[inline(always)]
     fn draw<L: Ledger>(&mut self, vram: &mut Vram, _run: Run, y: u16, steps: &mut Steps<L>) {
         let v = self.rows.texel_row(y);
-        self.method.draw_row(vram, &self.rows, y, v, steps);
+        self.method
+            .draw_row(vram, &self.rows, RowAt { y, v }, steps);
     }
 }
 
@@ -116,12 +116,11 @@ impl TexelRowsMethod for AnyRows {
         &mut self,
         vram: &mut Vram,
         rows: &TexelRows,
-        y: u16,
-        v: u8,
+        at: RowAt,
         steps: &mut Steps<L>,
     ) {
-        let span = rows.span(y, v);
-        self.row.v = v;
+        let span = rows.span(at);
+        self.row.v = at.v;
         draw_row(vram, &span, &self.row, &mut self.last, steps);
     }
 }
@@ -151,12 +150,11 @@ impl TexelRowsMethod for CachedClutRows {
         &mut self,
         vram: &mut Vram,
         rows: &TexelRows,
-        y: u16,
-        v: u8,
+        at: RowAt,
         steps: &mut Steps<L>,
     ) {
-        let span = rows.span(y, v);
-        let texel_run = rows.texel_run(v);
+        let span = rows.span(at);
+        let texel_run = rows.texel_run(at.v);
         let texels = FlatTexels {
             texture: &rows.texture,
             color: rows.color,

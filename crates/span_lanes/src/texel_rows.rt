@@ -58,21 +58,30 @@ pub struct TexelRows {
     pub clip_rect: ClipRect,
 }
 
+/// A row of a clip rectangle, and the row of the texture page whose texels it has.
+#[derive(Clone, Copy)]
+pub struct RowAt {
+    /// The row of video memory.
+    pub y: u16,
+    /// The row within the texture page.
+    pub v: u8,
+}
+
 impl TexelRows {
-    // Returns row `y` of the clip rectangle, with the texels of row `v` of the page.
+    // Returns row `at.y` of the clip rectangle, with the texels of row `at.v` of the page.
     #[inline(always)]
-    pub(crate) fn span(&self, y: u16, v: u8) -> Span
-        ensures { result ≡ texel_span self.now y v }
+    pub(crate) fn span(&self, at: RowAt) -> Span
+        ensures { result ≡ texel_span self.now at.y at.v }
     {
         Span {
             x: self.clip_rect.x,
-            y,
+            y: at.y,
             n: self.clip_rect.w,
             paint: Paint::TexturedRow {
                 color: self.color,
                 texture: self.texture,
                 u: self.u,
-                v,
+                v: at.v,
                 flip: self.flip,
             },
             brush: self.brush,

@@ -8,7 +8,7 @@ use Rattle.span_lanes.proofs.cached_clut256.CachedClut256ChunkDrawer.draw_chunk.
 pub draw_texels-requires-clause-free : goal.draw_texels-requires-clause-free
 draw_texels-requires-clause-free g c =
     let is = c.requires.chunk in
-    c.requires.serves.can.suits.hazard_free.free c.args.chunk.now.first c.args.chunk.now.k is.cut is.few is.within
+    c.requires.serves.0.can.suits.hazard_free.free c.args.chunk.now.first c.args.chunk.now.k is.cut is.few is.within
 
 pub draw_texels-requires-clause-drawn : goal.draw_texels-requires-clause-drawn
 draw_texels-requires-clause-drawn g c =
@@ -22,7 +22,7 @@ draw_texels-requires-clause-drawn g c =
         value = λ j lt.
             let lane : j < 16 = omega arith in
             drawn.texels j lane
-            ∙ c.requires.serves.entries.entry _ (indexes.low j lane)
+            ∙ c.requires.serves.0.entries.entry _ (indexes.low j lane)
             ∙ indexes.entry j lt;
       };
       long = drawn.long.1;
@@ -30,19 +30,19 @@ draw_texels-requires-clause-drawn g c =
           let x : ℕ = span.x + chunk.first + j in
           let lane : j < 16 = omega arith in
           let same_x : span.x + (chunk.first + j) ≡ x = omega arith in
-          let hue = rw same_x at (c.requires.serves.can.hue chunk.first j lane (omega arith)) in
-          let even = c.requires.serves.can.suits.even in
+          let hue = rw same_x at (c.requires.serves.0.can.hue chunk.first j lane (omega arith)) in
+          let even = c.requires.serves.0.can.suits.even in
           rw (← hue, no_shift (span.brush.dither && not c.args.self.now.texture.raw) x span.y even, drawn.texels j lane)
-          (drawn.modulated j lane ∙ c.requires.serves.entries.front _ (indexes.low j lane));
+          (drawn.modulated j lane ∙ c.requires.serves.0.entries.front _ (indexes.low j lane));
     }
 
 pub returns-clause-drawn : goal.returns-clause-drawn
 returns-clause-drawn g c =
     let chunk = c.args.chunk.now in
-    let suits = c.requires.serves.can.suits in
+    let suits = c.requires.serves.0.can.suits in
     let cost = (rw suits.depth at
     (apart_cost chunk c.args.self.now.texture c.requires.chunk suits.hazard_free
-    c.requires.serves.can.sample.texture)) in
+    c.requires.serves.0.can.sample.texture)) in
     record {
       cells = c.draw_texels.ensures.cells;
       long = c.draw_texels.ensures.others.count;
@@ -52,19 +52,21 @@ returns-clause-drawn g c =
 
 pub returns-clause-serves : goal.returns-clause-serves
 returns-clause-serves g c =
-    let is = c.requires.serves in
+    let is = c.requires.serves.0 in
     let part = c.requires.chunk in
     let chunk = c.args.chunk.now in
     let none = clut_missed chunk.span.now c.args.self.now.texture chunk.first chunk.k 256 is.can.sample.texture
     (rw is.can.suits.depth refl)
-    (is.can.suits.hazard_free.free chunk.first chunk.k part.cut part.few part.within) in
-    record {
-      can = record {
-        sample = sample_stays is.can.sample c.draw_texels.ensures.others.count;
-        suits = is.can.suits;
-        finds = is.can.finds;
-        hue = is.can.hue;
-      };
-      entries = swatches256_kept c.args.self.now.texture (chunk.span.now.x + chunk.first) chunk.span.now.y chunk.k _ _ _
-          _ c.draw_texels.ensures.others (omega arith) none is.entries;
-    }
+    (is.can.suits.hazard_free.free chunk.first chunk.k part.cut part.few part.within) in (
+      record {
+        can = record {
+          sample = sample_stays is.can.sample c.draw_texels.ensures.others.count;
+          suits = is.can.suits;
+          hue = is.can.hue;
+        };
+        entries = swatches256_kept c.args.self.now.texture (chunk.span.now.x + chunk.first) chunk.span.now.y chunk.k _ _
+            _
+            _ c.draw_texels.ensures.others (omega arith) none is.entries;
+      },
+      c.requires.serves.1,
+    )

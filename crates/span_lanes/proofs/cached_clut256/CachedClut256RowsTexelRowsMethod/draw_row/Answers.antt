@@ -3,9 +3,11 @@ use Rattle.span_lanes.proofs.cached_clut256.CachedClut256RowsTexelRowsMethod.dra
 
 pub draw_chunks-requires : goal.draw_chunks-requires
 draw_chunks-requires g c =
-    rw c.span.ensures
-    (record {
-      can = can_color_row 1 c.args.rows.now c.args.y c.args.v _ c.args.vram.now c.requires.ready.0.cache c.requires.can
-          (c.texel_run.ensures c.args.y);
-      entries = c.fill.ensures.colored;
-    })
+    rw c.span.ensures (
+      record {
+        can = can_color_row 1 c.args.rows.now c.args.at.y c.args.at.v c.args.vram.now c.requires.ready.0.cache
+            c.requires.can;
+        entries = c.fill.ensures.colored;
+      },
+      c.texel_run.ensures c.args.at.y,
+    )

@@ -58,9 +58,9 @@ returns-clause-serves g c =
       can = record {
         sample = sample_stays is.can.sample c.draw_texels.ensures.others.count;
         suits = is.can.suits;
-        finds = is.can.finds;
         hue = is.can.hue;
       };
+      finds = is.finds;
       raw = is.raw;
       colored = is.colored;
       entries = swatches_kept c.args.self.now.texture (chunk.span.now.x + chunk.first) chunk.span.now.y chunk.k _ _ _
