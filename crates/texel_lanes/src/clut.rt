@@ -43,8 +43,8 @@ pub fn sixteen_entries<L: Ledger>(vram: &Vram, clut: u16, steps: &mut Steps<L>) 
     vram.load16(clut % 64 * 16, clut_row(clut), 16, steps)
 }
 
-/// Returns the palette entries for the first `k` indexes; the other lanes have no specified value. All sixteen
-/// indexes must be below 256. Costs at most `k` steps.
+/// Returns the palette entries for the first `k` indexes, 1 to 16; the other lanes have no specified value. All
+/// sixteen indexes must be below 256. Costs at most `k` steps.
 #[inline(always)]
 pub fn gather_entries<G: Gather, L: Ledger>(
     vram: &Vram,
@@ -53,7 +53,7 @@ pub fn gather_entries<G: Gather, L: Ledger>(
     k: u8,
     steps: &mut Steps<L>,
 ) -> u16x16
-    requires few { k ≤ 16 }
+    requires few { (1 ≤ k) × (k ≤ 16) }
     requires long { length indexes ≡ 16 }
     requires low { EachLane (λ i. slice_index indexes i < 256) }
     ensures long { length result ≡ 16 }

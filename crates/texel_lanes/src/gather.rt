@@ -8,8 +8,8 @@ use std::simd::prelude::*;
 use std::sync::ledger::Ledger;
 use vram_store::{Steps, Vram};
 
-/// The method of reading `k` cells. The functions that read texels are compiled once for each method, so each suits a
-/// range of `k`.
+/// The method of reading `k` cells, 1 to 16. The functions that read texels are compiled once for each method, so
+/// each suits a range of `k`.
 pub trait Gather {
     /// Returns whether callers should test for contiguous or close cells first.
     fn looks() -> bool;
@@ -17,7 +17,7 @@ pub trait Gather {
     /// Returns the cells at columns `xs` and rows `ys` in the first `k` lanes. The other lanes have no specified
     /// value, but all sixteen must be cells of video memory. Costs at most `k` steps.
     fn gather<L: Ledger>(vram: &Vram, xs: u16x16, ys: u16x16, k: u8, steps: &mut Steps<L>) -> u16x16
-        requires few { k ≤ 16 }
+        requires few { (1 ≤ k) × (k ≤ 16) }
         requires long { (length xs ≡ 16) × (length ys ≡ 16) }
         requires in_row { EachLane (λ i. slice_index xs i < 1024) }
         requires in_height { EachLane (λ i. slice_index ys i < height_of vram.now) }
@@ -34,7 +34,7 @@ pub trait Gather {
         k: u8,
         steps: &mut Steps<L>,
     ) -> u16x16
-        requires few { k ≤ 16 }
+        requires few { (1 ≤ k) × (k ≤ 16) }
         requires long { length xs ≡ 16 }
         requires in_row { EachLane (λ i. slice_index xs i < 1024) }
         requires in_height { y < height_of vram.now }

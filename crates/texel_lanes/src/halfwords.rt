@@ -59,8 +59,7 @@ pub(crate) fn halfwords_of<G: Gather, L: Ledger>(
     k: u8,
     steps: &mut Steps<L>,
 ) -> u16x16
-    requires some { 1 ≤ k }
-    requires few { k ≤ 16 }
+    requires few { (1 ≤ k) × (k ≤ 16) }
     requires long { (length xs ≡ 16) × (length ys ≡ 16) }
     requires in_row { EachLane (λ i. slice_index xs i < 1024) }
     requires in_height { EachLane (λ i. slice_index ys i < height_of vram.now) }

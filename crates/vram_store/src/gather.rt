@@ -87,8 +87,8 @@ fn row_of(cells: &[u16], y: u16) -> &[u16]
 }
 
 impl Vram {
-    /// Returns the cells at columns `xs` and rows `ys` in the first `n` lanes. The other lanes have no specified
-    /// value. Costs `n` steps.
+    /// Returns the cells at columns `xs` and rows `ys` in the first `n` lanes, 1 to 16. The other lanes have no
+    /// specified value. Costs `n` steps.
     ///
     /// Reads `read` cells, from `n` to 16. All sixteen lanes must be cells of video memory. A constant `read` is
     /// faster than a loop over `n` cells.
@@ -101,6 +101,7 @@ impl Vram {
         read: u8,
         steps: &mut Steps<L>,
     ) -> u16x16
+        requires some { 1 ≤ n }
         requires few { (n ≤ read) × (read ≤ 16) }
         requires long { (length xs ≡ 16) × (length ys ≡ 16) }
         requires in_row { EachLane (λ i. slice_index xs i < 1024) }
@@ -124,6 +125,7 @@ impl Vram {
         read: u8,
         steps: &mut Steps<L>,
     ) -> u16x16
+        requires some { 1 ≤ n }
         requires few { (n ≤ read) × (read ≤ 16) }
         requires long { length xs ≡ 16 }
         requires in_row { EachLane (λ i. slice_index xs i < 1024) }
