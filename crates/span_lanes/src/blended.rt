@@ -14,7 +14,7 @@ use crate::Brush;
 use crate::modulated::ModulatedTexels;
 use crate::span::Chunk;
 use blend_dither::blend_lanes;
-use px_num::lanes::{add, low_bits, mul, shifted_down, splat, sub_or_zero};
+use px_num::lanes::{add, low_bits, mul, shifted_down, splat, where_equal};
 use std::simd::prelude::*;
 use std::sync::ledger::Ledger;
 use vram_store::mask::tests;
@@ -57,17 +57,14 @@ fn high_bits(texels: u16x16) -> u16x16
     shifted_down(texels, 15)
 }
 
-// Returns the lane of `first` if that of `bits` is 1, and the lane of `second` if it is 0.
+// Returns the lane of `first` if that of `bits` is 1, else the lane of `second`.
 fn choose(bits: u16x16, first: u16x16, second: u16x16) -> u16x16
     requires long { (length bits ≡ 16) × (length first ≡ 16) × (length second ≡ 16) }
-    requires low { EachLane (λ i. slice_index bits i ≤ 1) }
     ensures long { length result ≡ 16 }
     ensures value { EachLane (λ i. slice_index result i
         ≡ (if slice_index bits i == 1 then slice_index first i else slice_index second i)) }
 {
-    let firsts = mul(bits, first);
-    let seconds = mul(sub_or_zero(splat(1), bits), second);
-    add(firsts, seconds)
+    where_equal(bits, splat(1), first, second)
 }
 
 // Returns bits 0 to 14 of each lane, with the lane of `bits` (0 or 1) as bit 15.

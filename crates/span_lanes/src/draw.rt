@@ -16,8 +16,8 @@
 // - `CachedClut<TexelRun>`, four in `draw_cached_run`: a cached CLUT for other spans, raw or not, opaque or not.
 // - `Raw<FourBitRun>`, `Raw<EightBitRun>`, `Raw<FifteenBitRun>`, each opaque or not, in `draw_raw`: contiguous raw
 //   texels. [triangle 15-bit raw]
-// - `Shaded` of the same three, each opaque or not, in `draw_shaded`: contiguous modulated texels. [triangle 4-bit
-//   modulated, dithered]
+// - `Shaded` of the same three, each opaque or not, in `draw_dithered` and in `draw_undithered`: contiguous modulated
+//   texels. [triangle 4-bit modulated, dithered; rectangle 15-bit modulated]
 // - `CachedClut<&TexCoords>` and `RowSetup`, by the coordinates of each texel: in `draw_row_by_coords` [rectangle that
 //   is flipped], and in `draw_tri`, if spans in the triangle's clip rectangle may have a hazard. In such a rectangle,
 //   `draw_contiguous_tri` draws contiguous rows without a hazard by the loops above. [triangle 15-bit raw, edge of
@@ -26,7 +26,7 @@
 // Rectangles that cache their CLUT for all rows have four more loops of `CachedClut<TexelRun>`, in
 // `CachedClutRows::draw_row` [rectangle, sprite 4-bit], and for eight-bit texels two of `CachedClut256`, opaque or not,
 // in `CachedClut256Rows::draw_row` [rectangle 8-bit modulated]. `ContiguousRows` draws other contiguous rows without a
-// hazard by the loops of `draw_raw` and `draw_shaded`. [rectangle 15-bit raw]
+// hazard by the loops of `draw_raw` and `draw_undithered`. [rectangle 15-bit raw]
 ghost use Rattle.std.specs.Prelude.{◌≡◌};
 ghost use Rattle.span_lanes.specs.Draws.{CanDraw, DrawsSpan, at_stage};
 ghost use Rattle.span_lanes.specs.Paints.{row_paint};

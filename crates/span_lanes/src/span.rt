@@ -141,6 +141,21 @@ pub(crate) fn opaque(span: &Span) -> Span
     }
 }
 
+// Returns the same span. `dither` must be that of its pixels. The compiler then knows it, and makes a separate loop.
+#[inline(always)]
+pub(crate) fn with_dither(span: &Span, dither: bool) -> Span
+    requires { span.now.brush.dither ≡ dither }
+    ensures { result ≡ span.now }
+{
+    Span {
+        brush: Brush {
+            dither,
+            ..span.brush
+        },
+        ..*span
+    }
+}
+
 // Up to sixteen consecutive cells of a span.
 #[derive(Clone, Copy)]
 pub(crate) struct Chunk<'a> {

@@ -8,6 +8,7 @@ ghost use Rattle.span_lanes.specs.TexelRun.{IsTexelRun};
 use crate::chunk_loop::draw_by_brush;
 use crate::sampler::Sampler;
 use crate::shading::{Shading, row_colors_of, row_shading_of};
+use crate::span::with_dither;
 use crate::texel_run::TexelRun;
 use crate::texel_run_samplers::{EightBitRun, FifteenBitRun, FourBitRun};
 use crate::textured_chunks::{Raw, Shaded};
@@ -61,7 +62,7 @@ fn draw_raw<S: Sampler + Copy, L: Ledger>(
 
 // Draws a span of texels, modulated by the colours of `shading`. It must have no hazard, and the texture must not be
 // raw.
-#[inline(never)]
+#[inline(always)]
 fn draw_shaded<S: Sampler + Copy, L: Ledger>(
     vram: &mut Vram,
     span: &Span,
@@ -83,7 +84,45 @@ fn draw_shaded<S: Sampler + Copy, L: Ledger>(
     draw_by_brush(vram, span, &shaded, steps);
 }
 
-// Draws a span of texels by one of two loops: raw or modulated. It must have no hazard.
+// As [`draw_shaded`], for a span that is dithered.
+#[inline(never)]
+fn draw_dithered<S: Sampler + Copy, L: Ledger>(
+    vram: &mut Vram,
+    span: &Span,
+    found: &BoundSampler<S>,
+    shading: &Shading,
+    steps: &mut Steps<L>,
+)
+    requires take { CanTakeTexels span.now found.now.texture.now
+        (S.finds found.now.sampler span.now found.now.texture.now) vram.old }
+    requires raw { found.now.texture.now.raw ≡ false }
+    requires dither { span.now.brush.dither ≡ true }
+    requires shading { IsShadingFor span.now.paint shading.now }
+    ensures { DrawsSpan span.now 0 (at_stage vram.old steps.old) (at_stage vram.new steps.new) }
+{
+    draw_shaded(vram, &with_dither(span, true), found, shading, steps);
+}
+
+// As [`draw_shaded`], for a span that is not dithered.
+#[inline(never)]
+fn draw_undithered<S: Sampler + Copy, L: Ledger>(
+    vram: &mut Vram,
+    span: &Span,
+    found: &BoundSampler<S>,
+    shading: &Shading,
+    steps: &mut Steps<L>,
+)
+    requires take { CanTakeTexels span.now found.now.texture.now
+        (S.finds found.now.sampler span.now found.now.texture.now) vram.old }
+    requires raw { found.now.texture.now.raw ≡ false }
+    requires dither { span.now.brush.dither ≡ false }
+    requires shading { IsShadingFor span.now.paint shading.now }
+    ensures { DrawsSpan span.now 0 (at_stage vram.old steps.old) (at_stage vram.new steps.new) }
+{
+    draw_shaded(vram, &with_dither(span, false), found, shading, steps);
+}
+
+// Draws a span of texels by one of three loops: raw, modulated, or modulated and dithered. It must have no hazard.
 #[inline(always)]
 fn draw_by_raw<S: Sampler + Copy, L: Ledger>(
     vram: &mut Vram,
@@ -99,8 +138,10 @@ fn draw_by_raw<S: Sampler + Copy, L: Ledger>(
 {
     if found.texture.raw {
         draw_raw(vram, span, found, steps);
+    } else if span.brush.dither {
+        draw_dithered(vram, span, found, shading, steps);
     } else {
-        draw_shaded(vram, span, found, shading, steps);
+        draw_undithered(vram, span, found, shading, steps);
     }
 }
 
