@@ -4,4 +4,5 @@ pub mod CutLemmas
 pub mod FillLemmas
 pub mod HalfLemmas
 pub mod LoadLemmas
+pub mod MoveLemmas
 pub mod WordLemmas

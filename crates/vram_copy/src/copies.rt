@@ -1,4 +1,4 @@
-// Copies in chunks of up to sixteen cells, with a test for hazards.
+// Copies of rectangles, piece by piece of each row.
 ghost use Rattle.std.specs.Prelude.{◌≡◌, ◌≤◌, ◌<◌, ◌+◌, ◌-◌, ◌*◌, false, min, length};
 ghost use Rattle.overlap_guard.specs.Hazard.{has_copy_hazard};
 ghost use Rattle.vram_store.specs.Vram.{height_of};
@@ -8,6 +8,7 @@ ghost use Rattle.vram_copy.specs.Costs.{piece_len, chunk_cost, piece_cost, row_c
 
 use crate::cells::{cell_down, cell_right};
 use crate::chunks::{Way, copy_at_once, copy_chunks};
+use crate::moves::can_move;
 use crate::plots::copy_cell;
 use overlap_guard::copy_hazard;
 use px_num::Cell;
@@ -20,8 +21,9 @@ use vram_store::{Steps, Vram};
 /// read from video memory as it is when its turn comes. So a copy to cells that are read later repeats what it wrote
 /// (our own rule). X wraps at 1024 and Y at the height.
 ///
-/// A row is cut into pieces at the columns at which source or target wraps, and each piece into chunks of up to
-/// sixteen cells. A chunk costs at most three steps. With a hazard, it costs at most three for each of its cells.
+/// A row is cut into pieces at the columns at which source or target wraps. A piece is moved at once if the setting
+/// neither tests nor forces and no cell of the piece is both read and written. Any other piece is cut into chunks of up
+/// to sixteen cells. A chunk costs at most three steps. With a hazard, it costs at most three for each of its cells.
 pub fn copy<L: Ledger>(
     vram: &mut Vram,
     mask: u8,
@@ -79,8 +81,8 @@ fn piece_len(source_x: u16, target_x: u16, left: u16) -> u16
     left.min((1024 - source_x).min(1024 - target_x))
 }
 
-// Copies `n` cells within one row. The hazard of the first chunk is tested once: later chunks have the same distance
-// between source and target.
+// Copies `n` cells within one row. If they cannot be moved at once, the hazard of the first chunk is tested once: later
+// chunks have the same distance between source and target.
 #[inline(always)]
 fn copy_piece<L: Ledger>(vram: &mut Vram, mask: u8, way: Way, n: u16, steps: &mut Steps<L>)
     requires some { 1 ≤ n }
@@ -90,7 +92,9 @@ fn copy_piece<L: Ledger>(vram: &mut Vram, mask: u8, way: Way, n: u16, steps: &mu
     ensures long { length vram.new ≡ length vram.old }
     ensures cost { steps.new ≤ steps.old + piece_cost way.from way.to n }
 {
-    if copy_hazard(way.from, way.to, n.min(16) as u8) {
+    if can_move(mask, way, n) {
+        vram.copy_run(way.from, way.to, n, steps);
+    } else if copy_hazard(way.from, way.to, n.min(16) as u8) {
         copy_guarded(vram, mask, way, n, steps);
     } else {
         copy_apart(vram, mask, way, n, steps);

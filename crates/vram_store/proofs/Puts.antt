@@ -1,5 +1,5 @@
 -- Writes of cells of which some keep their values.
-use Rattle.std.proofs.Common.{◌≡◌, ◌<◌, ◌≤◌, inl, inr, ℕ, List, ◌+◌, ◌-◌, cond, ltb, eqb, length, get_or, arith, refl}
+use Rattle.std.proofs.Common.{◌≡◌, ◌<◌, ◌≤◌, inl, inr, ℕ, List, ◌+◌, ◌-◌, ◌^◌, cond, ltb, eqb, length, get_or, arith, refl}
 use Rattle.std.proofs.Common.{◌∙◌, ◌++◌, ap, zero-add}
 use lib.Lanes.{pick_l, chunk}
 use Rattle.std.specs.List.{range_with_len}
@@ -7,7 +7,7 @@ use Rattle.std.proofs.lemmas.Simd.{pick_l_left, pick_l-range_with_len, get_or-ch
 use Rattle.std.proofs.lemmas.Bool.{cases_lt}
 use Rattle.std.proofs.lemmas.Bool.Decides.{nat_tests}
 use Rattle.vram_store.specs.Vram.{IsLoaded, IsStored, IsPut, bit}
-use Rattle.vram_store.proofs.Ones.{ones}
+use Rattle.vram_store.proofs.Ones.{low_ones}
 
 -- the first eight of sixteen lanes
 abbrev pub first_half : List ℕ → List ℕ
@@ -21,13 +21,14 @@ half_lane lanes long j lt =
     ∙ pick_l-range_with_len 0 lanes 0 8 (omega (arith, long)) in
     ap (λ xs. get_or xs j 0) same ∙ get_or-chunk 0 8 lanes j 0 lt ∙ ap (λ n. get_or lanes n 0) (zero-add j)
 
-pub put_all : (old lanes new : List ℕ) (start : ℕ) → start + 16 ≤ length old → IsPut old start 16 lanes new
-    → IsStored old start (record { n = 16; lanes = lanes; bits = 65535 }) new
-put_all old lanes new start room put = record {
+-- a store of n lanes whose bits are all 1
+pub put_all : (old lanes new : List ℕ) (start n : ℕ) → start + n ≤ length old → IsPut old start n lanes new
+    → IsStored old start (record { n = n; lanes = lanes; bits = 2 ^ n - 1 }) new
+put_all old lanes new start n room put = record {
   count = put.count;
   in_cells = room;
   written = λ j lt b. put.written j lt;
-  masked = λ j lt not. absurd (not (ones j lt));
+  masked = λ j lt not. absurd (not (low_ones n j lt));
   others = put.others;
 }
 

@@ -1,4 +1,4 @@
-// The cells of video memory, and four of the six counted accesses.
+// The cells of video memory, and four of the seven counted accesses.
 ghost use Rattle.std.specs.Prelude.{◌≡◌, ◌≤◌, ◌<◌, ◌+◌, ◌*◌, ◌++◌, ◌-◌, ℕ, List, length, vec_len, vec_capacity, IfOk};
 ghost use Rattle.px_num.specs.Height.{IsHeight, tall_height};
 ghost use Rattle.px_num.specs.Zeros.{zeros};
