@@ -2,9 +2,13 @@
 """What the program says to a person: files by name, hints at a terminal, and none where standard error is none."""
 import os
 import pty
+import signal
+import socket
+import struct
 import subprocess
 import sys
 import tempfile
+import time
 import unittest
 
 from psxgpu.capture import Capture, rectangle
@@ -13,26 +17,35 @@ PLAYER = os.environ.get('PLAYER', 'crates/psxgpu_tool/out/psxgpu_tool')
 EMPTY = Capture().stat().bytes()
 
 
-def at_terminal(words, data=b'', out=None):
-    """Runs the program with standard error at a terminal; answers its status and what stands there."""
+def started(words, source, out=None):
+    """Starts the program with standard error at a terminal; returns the run and our end of the terminal."""
     ours, theirs = pty.openpty()
+    run = subprocess.Popen([PLAYER, *words], stdin=source, stdout=out or subprocess.DEVNULL, stderr=theirs)
+    os.close(theirs)
+    return run, ours
+
+
+def ended(run, ours):
+    """Returns the status of a run and the lines that it wrote to the terminal."""
+    said = b''
+    while True:
+        try:
+            piece = os.read(ours, 4096)
+        except OSError:
+            break
+        if not piece:
+            break
+        said += piece
+    os.close(ours)
+    return run.wait(), said.decode().replace('\r\n', '\n').splitlines()
+
+
+def at_terminal(words, data=b'', out=None):
+    """Runs the program with standard error at a terminal; returns its status and the lines that it wrote there."""
     with tempfile.TemporaryFile() as source:
         source.write(data)
         source.seek(0)
-        run = subprocess.Popen([PLAYER, *words], stdin=source, stdout=out or subprocess.DEVNULL, stderr=theirs)
-        os.close(theirs)
-        said = b''
-        while True:
-            try:
-                piece = os.read(ours, 4096)
-            except OSError:
-                break
-            if not piece:
-                break
-            said += piece
-        status = run.wait()
-    os.close(ours)
-    return status, said.decode().replace('\r\n', '\n').splitlines()
+        return ended(*started(words, source, out))
 
 
 def piped(words, data=b''):
@@ -154,6 +167,24 @@ class Hints(unittest.TestCase):
         os.close(ours)
         with os.fdopen(theirs, 'wb') as gone:
             self.assertEqual(at_terminal(['vram'], EMPTY, gone), (4, []))
+
+    def test_an_interrupted_read_is_no_error(self):
+        """A stop interrupts reads that wait for input. The reads after it succeed."""
+        ours, theirs = socket.socketpair()
+        with ours, theirs:
+            # On Linux, a stop interrupts a read of a socket only if that has a time-out.
+            theirs.setsockopt(socket.SOL_SOCKET, socket.SO_RCVTIMEO, struct.pack('@ll', 60, 0))
+            run, terminal = started(['play'], theirs)
+            ours.sendall(EMPTY[:9])
+            for _ in range(4):
+                time.sleep(0.05)
+                run.send_signal(signal.SIGSTOP)
+                os.waitpid(run.pid, os.WUNTRACED)
+                run.send_signal(signal.SIGCONT)
+            time.sleep(0.05)
+            ours.sendall(EMPTY[9:])
+            ours.shutdown(socket.SHUT_WR)
+            self.assertEqual(ended(run, terminal), (0, []))
 
     def test_bytes_are_kept_from_the_screen(self):
         ours, theirs = pty.openpty()
