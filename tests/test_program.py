@@ -2,16 +2,13 @@
 """What the program says to a person: files by name, hints at a terminal, and none where standard error is none."""
 import os
 import pty
-import signal
-import socket
-import struct
 import subprocess
 import sys
 import tempfile
-import time
 import unittest
 
 from psxgpu.capture import Capture, rectangle
+from tests.interruptions import interruptible, send_interrupted
 
 PLAYER = os.environ.get('PLAYER', 'crates/psxgpu_tool/out/psxgpu_tool')
 EMPTY = Capture().stat().bytes()
@@ -170,20 +167,10 @@ class Hints(unittest.TestCase):
 
     def test_an_interrupted_read_is_no_error(self):
         """A stop interrupts reads that wait for input. The reads after it succeed."""
-        ours, theirs = socket.socketpair()
+        ours, theirs = interruptible()
         with ours, theirs:
-            # On Linux, a stop interrupts a read of a socket only if that has a time-out.
-            theirs.setsockopt(socket.SOL_SOCKET, socket.SO_RCVTIMEO, struct.pack('@ll', 60, 0))
             run, terminal = started(['play'], theirs)
-            ours.sendall(EMPTY[:9])
-            for _ in range(4):
-                time.sleep(0.05)
-                run.send_signal(signal.SIGSTOP)
-                os.waitpid(run.pid, os.WUNTRACED)
-                run.send_signal(signal.SIGCONT)
-            time.sleep(0.05)
-            ours.sendall(EMPTY[9:])
-            ours.shutdown(socket.SHUT_WR)
+            send_interrupted(run, ours, EMPTY)
             self.assertEqual(ended(run, terminal), (0, []))
 
     def test_bytes_are_kept_from_the_screen(self):
