@@ -4,6 +4,7 @@
  *
  * COUNT is for psxgpu_tool's `cut COUNT` of a capture that ends there: the machine after the first COUNT events. With
  * `blocks` the words of a Gp0 record go to the machine in one call. The capture has to be whole. */
+#include <errno.h>
 #include <inttypes.h>
 #include <stdio.h>
 #include <stdlib.h>
@@ -33,18 +34,26 @@ static void *room_for(size_t size) {
     return room;
 }
 
+/* Reads standard input to its end. A read that a signal interrupts is repeated. */
 static uint8_t *read_all(size_t *length) {
     size_t room = 1 << 16;
     uint8_t *bytes = room_for(room);
     *length = 0;
-    for (size_t count; (count = fread(bytes + *length, 1, room - *length, stdin)) > 0;) {
-        *length += count;
-        if (*length < room) continue;
-        room *= 2;
-        bytes = realloc(bytes, room);
-        if (bytes == NULL) fail("no memory");
+    for (;;) {
+        errno = 0;
+        *length += fread(bytes + *length, 1, room - *length, stdin);
+        if (*length == room) {
+            room *= 2;
+            bytes = realloc(bytes, room);
+            if (bytes == NULL) fail("no memory");
+        } else if (!ferror(stdin)) {
+            return bytes;
+        } else if (errno == EINTR) {
+            clearerr(stdin);
+        } else {
+            fail("standard input cannot be read");
+        }
     }
-    return bytes;
 }
 
 static void play_gp0(struct player *player, size_t count) {

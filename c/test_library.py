@@ -20,6 +20,7 @@ import unittest
 HERE = os.path.dirname(os.path.abspath(__file__))
 sys.path.append(os.path.join(HERE, '..'))
 
+from tests.interruptions import interruptible, send_interrupted
 from tests.library import support as program
 
 ROOT = os.path.dirname(HERE)
@@ -142,6 +143,20 @@ class Library(unittest.TestCase):
                     self.assert_snapshot(done.stdout, out)
                 else:
                     self.assertEqual(done.stdout, out)
+
+    @unittest.skipIf(RUN, 'an emulator has reads of its own')
+    def test_input_of_events(self):
+        """events.c repeats a read that a signal interrupts, and reports one that fails."""
+        path = self.build('events', [*C, *SANITIZED], 'events.c', [ARCHIVE])
+        ours, theirs = interruptible()
+        with ours, theirs:
+            run = subprocess.Popen([path, 'play'], stdin=theirs, stdout=subprocess.PIPE)
+            send_interrupted(run, ours, b'PSXGPUC1' + bytes(4))
+            self.assertEqual((run.communicate()[0], run.returncode), (b'status 14802000\n', 0))
+        folder = os.open(HERE, os.O_RDONLY)
+        done = subprocess.run([path, 'play'], stdin=folder, capture_output=True)
+        os.close(folder)
+        self.assertEqual((done.returncode, done.stderr), (5, b'events: standard input cannot be read\n'))
 
 
 if __name__ == '__main__':

@@ -88,6 +88,19 @@ static inline size_t psxgpu_whole_(const psxgpu_capture *c, size_t most) {
 
 static inline int psxgpu_errno_(void) { return errno ? errno : EIO; }
 
+/* Writes `size` bytes to the file. A write that a signal interrupts continues with the bytes that are left. Returns how
+   many are written; after fewer than `size`, errno has the cause, or is 0. */
+static inline size_t psxgpu_write_(FILE *file, const void *from, size_t size) {
+    const unsigned char *bytes = (const unsigned char *)from;
+    size_t written = 0;
+    for (;;) {
+        errno = 0;
+        written += fwrite(bytes + written, 1, size - written, file);
+        if (written == size || errno != EINTR) return written;
+        clearerr(file);
+    }
+}
+
 /* Closes the file. `written`: how many bytes of room are in it already. After the last whole record comes End; without
    space for it, nothing or fewer than four bytes 0. */
 static inline void psxgpu_end_(psxgpu_capture *c, int error, size_t written) {
@@ -96,7 +109,7 @@ static inline void psxgpu_end_(psxgpu_capture *c, int error, size_t written) {
     c->bytes += whole;
     errno = 0;
     if (whole == written || !fseek(c->file, (long)c->bytes, SEEK_SET)) {
-        if (fwrite(end, 1, 4, c->file) == 4) c->bytes += 4;
+        if (psxgpu_write_(c->file, end, 4) == 4) c->bytes += 4;
         else if (!error) error = psxgpu_errno_();
     }
     if (fclose(c->file) && !error) error = psxgpu_errno_();
@@ -113,8 +126,7 @@ static inline void psxgpu_capture_flush(psxgpu_capture *c) {
     if (c->file) {
         if (c->bytes + c->used + 4 > PSXGPU_CAPTURE_MOST)
             most = psxgpu_whole_(c, (size_t)(PSXGPU_CAPTURE_MOST - 4 - c->bytes));
-        errno = 0;
-        written = most ? fwrite(c->room, 1, most, c->file) : 0;
+        written = psxgpu_write_(c->file, c->room, most);
         if (written < most) psxgpu_end_(c, psxgpu_errno_(), written);
         else if (most < c->used) psxgpu_end_(c, EFBIG, written);
         else c->bytes += most;
@@ -128,7 +140,7 @@ static inline int psxgpu_capture_open(psxgpu_capture *c, const char *path) {
     c->file = fopen(path, "wb");
     if (!c->file) return c->error = psxgpu_errno_();
     setvbuf(c->file, NULL, _IONBF, 0);
-    if (fwrite("PSXGPUC2", 1, 8, c->file) == 8) {
+    if (psxgpu_write_(c->file, "PSXGPUC2", 8) == 8) {
         c->bytes = 8;
         return 0;
     }

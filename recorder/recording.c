@@ -77,7 +77,7 @@ static void write_cells(void) {
     FILE *file = freeze_now() ? beside("vram") : NULL;
     size_t written;
     if (!file) return;
-    written = fwrite(frozen.cells, 1, 1048576, file);
+    written = psxgpu_write_(file, frozen.cells, 1048576);
     if (fclose(file) || written != 1048576) tell_lost("vram");
 }
 

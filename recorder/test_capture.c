@@ -5,6 +5,19 @@
 static void *no_memory(void) { return NULL; }
 #define calloc(n, size) no_memory()
 #endif
+#ifdef INTERRUPTED
+#include <errno.h>
+#include <stdio.h>
+/* Of four writes, a signal interrupts three, each after half of its bytes. */
+static size_t interrupted(const void *from, size_t size, size_t count, FILE *file) {
+    static int turns;
+    if (turns++ % 4 == 3) return fwrite(from, size, count, file);
+    count = fwrite(from, size, count / 2, file);
+    errno = EINTR;
+    return count;
+}
+#define fwrite interrupted
+#endif
 #include "psxgpu_capture.h"
 
 static psxgpu_capture cap;

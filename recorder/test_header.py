@@ -24,11 +24,12 @@ def compile_test(folder, name, command):
 
 
 def setUpModule():
-    global FOLDER, PROGRAMS, SMALL, POOR
+    global FOLDER, PROGRAMS, SMALL, POOR, INTERRUPTED
     FOLDER = tempfile.mkdtemp()
     PROGRAMS = [compile_test(FOLDER, name, command + SANE) for name, command in LANGUAGES.items()]
     SMALL = compile_test(FOLDER, 'small', LANGUAGES['c'] + SANE + ['-DPSXGPU_CAPTURE_MOST=%du' % MOST])
     POOR = compile_test(FOLDER, 'poor', LANGUAGES['c'] + SANE + ['-DNO_MEMORY'])
+    INTERRUPTED = compile_test(FOLDER, 'interrupted', LANGUAGES['c'] + SANE + ['-DINTERRUPTED'])
 
 
 def tearDownModule():
@@ -153,6 +154,12 @@ class Endings(unittest.TestCase):
             self.assertEqual(part, whole[:len(part)])
             self.assertLess(most - len(data), 65536 + 8)
             self.assertLessEqual(int(words[2]), len(data))
+
+    def test_interrupted_writes(self):
+        """A signal interrupts writes: the file is as it is without."""
+        for case in ('ports', 'lists', 'many', 'nothing'):
+            with self.subTest(case=case):
+                self.assertEqual(run(INTERRUPTED, case), run(PROGRAMS[0], case))
 
     def test_no_memory(self):
         words, data = run(POOR, 'lists')

@@ -8,31 +8,41 @@ import tempfile
 import unittest
 
 from psxgpu.capture import Capture, rectangle
+from tests.interruptions import interruptible, send_interrupted
 
 PLAYER = os.environ.get('PLAYER', 'crates/psxgpu_tool/out/psxgpu_tool')
 EMPTY = Capture().stat().bytes()
 
 
-def at_terminal(words, data=b'', out=None):
-    """Runs the program with standard error at a terminal; answers its status and what stands there."""
+def started(words, source, out=None):
+    """Starts the program with standard error at a terminal; returns the run and our end of the terminal."""
     ours, theirs = pty.openpty()
+    run = subprocess.Popen([PLAYER, *words], stdin=source, stdout=out or subprocess.DEVNULL, stderr=theirs)
+    os.close(theirs)
+    return run, ours
+
+
+def ended(run, ours):
+    """Returns the status of a run and the lines that it wrote to the terminal."""
+    said = b''
+    while True:
+        try:
+            piece = os.read(ours, 4096)
+        except OSError:
+            break
+        if not piece:
+            break
+        said += piece
+    os.close(ours)
+    return run.wait(), said.decode().replace('\r\n', '\n').splitlines()
+
+
+def at_terminal(words, data=b'', out=None):
+    """Runs the program with standard error at a terminal; returns its status and the lines that it wrote there."""
     with tempfile.TemporaryFile() as source:
         source.write(data)
         source.seek(0)
-        run = subprocess.Popen([PLAYER, *words], stdin=source, stdout=out or subprocess.DEVNULL, stderr=theirs)
-        os.close(theirs)
-        said = b''
-        while True:
-            try:
-                piece = os.read(ours, 4096)
-            except OSError:
-                break
-            if not piece:
-                break
-            said += piece
-        status = run.wait()
-    os.close(ours)
-    return status, said.decode().replace('\r\n', '\n').splitlines()
+        return ended(*started(words, source, out))
 
 
 def piped(words, data=b''):
@@ -154,6 +164,14 @@ class Hints(unittest.TestCase):
         os.close(ours)
         with os.fdopen(theirs, 'wb') as gone:
             self.assertEqual(at_terminal(['vram'], EMPTY, gone), (4, []))
+
+    def test_an_interrupted_read_is_no_error(self):
+        """A stop interrupts reads that wait for input. The reads after it succeed."""
+        ours, theirs = interruptible()
+        with ours, theirs:
+            run, terminal = started(['play'], theirs)
+            send_interrupted(run, ours, EMPTY)
+            self.assertEqual(ended(run, terminal), (0, []))
 
     def test_bytes_are_kept_from_the_screen(self):
         ours, theirs = pty.openpty()

@@ -2,7 +2,8 @@
 
    FAULT_KIND is memory, read, write or error (a write to standard error), and FAULT_AT the number of the call that
    fails, from 1 on; `short` lets each read give and each write take one byte, and `signal` lets a signal interrupt each
-   read and each write once. At the end the numbers of the calls are written to the file FAULT_COUNTS. */
+   read and each write three times in a row. At the end, the numbers of the calls are written to the file
+   FAULT_COUNTS. */
 #define _GNU_SOURCE
 #include <errno.h>
 #include <stdio.h>
@@ -60,11 +61,11 @@ static int fails(enum kind kind, int code)
     return 1;
 }
 
-/* Says whether a signal interrupts a call on one of the standard streams: each first of two. */
+/* Returns whether a signal interrupts a call on one of the standard streams: three calls of four, from the first on. */
 static int is_interrupted(int file)
 {
     static int turns[3];
-    if (!has_signals || file < 0 || file > 2 || !(turns[file] ^= 1))
+    if (!has_signals || file < 0 || file > 2 || turns[file]++ % 4 == 3)
         return 0;
     errno = EINTR;
     return 1;

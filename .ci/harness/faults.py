@@ -6,7 +6,7 @@
 PLAYER is a program, or a command that starts one by an emulator; the environment's CC then names the compiler of its
 system. For each capture (or snapshot) and each command (play, if none is given; `cut 3` is one word), the run is tried as it
 is, and then once for each growth of memory that is refused, for each read and each write that fails, with reads and
-writes of one byte each, and with a signal that interrupts each read and each write once. What must come: without
+writes of one byte each, and with a signal that interrupts each read and each write three times. What must come: without
 memory status 5, nothing read and nothing on standard output, or, where a smaller growth serves as well and is asked
 for next, all as it was; where a read fails status 3, where a write fails status 4, and in both cases a part of what is
 written otherwise; where standard error fails, the pieces are short or a signal interrupts, the same status and the

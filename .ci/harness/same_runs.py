@@ -5,6 +5,7 @@ import fcntl
 import os
 import pty
 import re
+import select
 import shutil
 import signal
 import struct
@@ -12,7 +13,7 @@ import subprocess
 import tempfile
 import termios
 import unittest
-from typing import Any, Optional, Tuple
+from typing import Any, List, Optional, Tuple
 
 ROOT = os.path.dirname(os.path.dirname(os.path.dirname(os.path.abspath(__file__))))
 NATIVE = os.environ.get('PLAYER', os.path.join(ROOT, 'crates', 'psxgpu_tool', 'out', 'psxgpu_tool'))
@@ -38,6 +39,29 @@ def run(program: str, *words: str, data: bytes = b'', folder: Optional[str] = No
     how.setdefault('stdout', subprocess.PIPE)
     done = subprocess.run([program, *words], input=data, stderr=subprocess.PIPE, cwd=folder, timeout=SECONDS, **how)
     return done.returncode, done.stdout, done.stderr
+
+
+def answers(program: str, *words: str, talk: List[Tuple[bytes, bytes]]) -> Tuple[List[bytes], int]:
+    """Runs a program beside a peer that waits for an answer to each text before it sends the next one. `talk` has the
+    texts and what answers them. Returns the answers, the last one with all that came after it, and the status."""
+    found = []
+    with subprocess.Popen([program, *words], stdin=subprocess.PIPE, stdout=subprocess.PIPE, bufsize=0) as run:
+        assert run.stdin and run.stdout
+        for sent, wanted in talk:
+            run.stdin.write(sent)
+            answer = b''
+            while len(answer) < len(wanted) and select.select([run.stdout], [], [], SECONDS)[0]:
+                piece = run.stdout.read(len(wanted) - len(answer))
+                if not piece:
+                    break
+                answer += piece
+            found.append(answer)
+            if answer != wanted:
+                run.kill()
+                break
+        run.stdin.close()
+        found[-1] += run.stdout.read()
+        return found, run.wait(SECONDS)
 
 
 def at_terminal(program: str, *words: str) -> Tuple[int, bytes]:
@@ -98,16 +122,25 @@ class Same(unittest.TestCase):
         self.assertEqual(self.same('flat', data=data)[0], 0)
 
     def test_co_process(self) -> None:
-        """Each read is answered before more is asked for."""
-        with subprocess.Popen([self.player, 'play'], stdin=subprocess.PIPE, stdout=subprocess.PIPE, bufsize=0) as gpu:
-            assert gpu.stdin and gpu.stdout
-            gpu.stdin.write(b'PSXGPUC1' + record(GP0, 3, 0x02FFFFFF, 0, 0x00100010))
-            gpu.stdin.write(record(GP0, 3, 0xC0000000, 0, 0x00010002) + record(READ, 1))
-            self.assertEqual(gpu.stdout.readline(), b'7fff7fff\n')
-            gpu.stdin.write(record(STAT, 1))
-            self.assertEqual(gpu.stdout.readline(), b'14802000\n')
-            gpu.stdin.write(record(END, 0))
-            self.assertEqual((gpu.stdout.read(), gpu.wait(SECONDS)), (b'status 14802000\n', 0))
+        """Each command that writes something for the events sent so far writes it before it waits for more."""
+        fill, box = [0x02FFFFFF, 0, 0x00100010], [0x60FFFFFF, 0, 0x00100010]
+        head, first, second = b'PSXGPUC1', record(GP0, 3, *fill), record(GP0, 3, *box)
+        store, stat, end = record(GP0, 3, 0xC0000000, 0, 0x00010002), record(STAT, 1), record(END, 0)
+        words = [record(GP0, 1, word) for word in fill + box]
+        flat = b'PSXGPUC2' + b''.join(words[:3]), b''.join(words[3:])
+        whole = self.same('cut', '6', data=head + first + second + stat + end)[1]
+        for command, talk in (
+                ('play', [(head + first + store + record(READ, 1), b'7fff7fff\n'), (stat, b'14802000\n'),
+                          (end, b'status 14802000\n')]),
+                ('list', [(head + first, b'3 fill 02ffffff 0 0 15 15\n'), (second, b'6 rectangle 60ffffff 0 0 0 0\n'),
+                          (stat + end, b'')]),
+                ('pixel 1 1', [(head + first, b'3 fill 02ffffff 0000 7fff\n'),
+                               (record(GP0, 3, 0x02000000, *fill[1:]), b'6 fill 02000000 7fff 0000\n'), (end, b'')]),
+                ('flat', [(head + first, flat[0]), (second, flat[1]), (stat, stat), (end, end)]),
+                ('cut 6', [(head + first, b''), (second, whole[:-8]), (stat, stat), (end, end)])):
+            with self.subTest(command=command):
+                wanted = [answer for _, answer in talk]
+                self.assertEqual(answers(self.player, *command.split(), talk=talk), (wanted, 0))
 
     def test_closed_pipe(self) -> None:
         """Nobody reads any more: status 4."""

@@ -52,6 +52,13 @@ EVASIONS: List[Tuple[str, str, str, str]] = [
      'impl Vram {\n    pub fn peek(&self) -> u16 {\n        let Self { cells } = self;\n        cells[0]\n    }\n}\n'),
     ('an accessor by a macro', 'vram_store/src/mask.rt', '',
      'macro_rules! field {\n    ($of:expr, $name:ident) => {\n        $of.$name\n    };\n}\n'),
+    ('an accessor by a macro of another crate', 'px_num/src/lib.rt', '',
+     '#[macro_export]\nmacro_rules! field {\n    ($of:expr, $name:ident) => {\n        $of.$name\n    };\n}\n'),
+    ('an accessor by another name of the type', 'vram_store/src/mask.rt', '',
+     'use crate::Vram as Other;\npub fn peek(of: &Other) -> u16 {\n    let Other { cells } = of;\n    cells[0]\n}\n'),
+    ('an accessor by the pattern of a loop', 'vram_store/src/gather.rt', '',
+     'impl Vram {\n    pub fn peek(&self) -> u16 {\n        for Vram { cells } in [self] {\n'
+     '            return cells[0];\n        }\n        0\n    }\n}\n'),
     ('an accessor that is a constant', 'vram_store/src/mask.rt', '',
      'pub const PEEK: fn(&crate::Vram) -> u16 = |vram| vram.cells[0];\n'),
     ('a second accessor of a name that need not count', 'vram_store/src/vram.rt', '',

@@ -1,5 +1,5 @@
 // A reader and a writer that record what explains a failed run to a person.
-ghost use Rattle.std.specs.Prelude.{◌≡◌, ◌≤◌, ◌++◌, [], List, ℕ, None, Some, length, take, IfOk, IfErr, OnOk};
+ghost use Rattle.std.specs.Prelude.{◌≡◌, ◌≤◌, ◌++◌, [], List, ℕ, None, Some, length, take, IfOk, MatchResult, OnOk};
 ghost use Rattle.std.specs.Io.{ReadsAtMost, WritesAtMost};
 ghost use Rattle.std.specs.Io.KnownBytes.{Keeps, ReadConsumes, WriteAppends};
 ghost use Rattle.std.specs.IoError.{raw_os_error};
@@ -10,7 +10,7 @@ use std::io::{Read, Write};
 /// The number of first bytes that are recorded.
 pub const KEPT: usize = 12;
 
-/// A reader that records its first `KEPT` bytes and its last error.
+/// A reader that records its first `KEPT` bytes and the error of its last call.
 #[derive(Drop)]
 pub struct NoticedReader<R: Read> {
     reader: R,
@@ -40,7 +40,7 @@ impl<R: Read> NoticedReader<R> {
         &self.first[..self.len]
     }
 
-    /// Returns the operating system's number of the last error.
+    /// Returns the operating system's number of the last call's error; None after a call that succeeded.
     pub fn error(&self) -> Option<i32>
         ensures { result ≡ self.now.error }
     {
@@ -67,11 +67,12 @@ impl<R: Read> Read for NoticedReader<R> {
         ensures bytes { ReadConsumes (R.remaining self.old.reader) (R.remaining self.new.reader) result buf.new }
         ensures first { IfOk result (λ n. take self.new.len self.new.first
             ≡ take 12 (take self.old.len self.old.first ++ take n buf.new)) }
-        ensures error { IfErr result (λ error. self.new.error ≡ raw_os_error error) }
+        ensures error { MatchResult result (λ _. self.new.error ≡ None) (λ error. self.new.error ≡ raw_os_error error) }
     {
         match self.reader.read(buf) {
             Ok(n) => {
                 self.keep(&buf[..n]);
+                self.error = None;
                 Ok(n)
             }
             Err(error) => {
@@ -82,7 +83,7 @@ impl<R: Read> Read for NoticedReader<R> {
     }
 }
 
-/// A writer that records its last error.
+/// A writer that records the error of its last call of `write`.
 #[derive(Drop)]
 pub struct NoticedWriter<W: Write> {
     writer: W,
@@ -99,7 +100,7 @@ impl<W: Write> NoticedWriter<W> {
         }
     }
 
-    /// Returns the operating system's number of the last error.
+    /// Returns the operating system's number of the last call's error; None after a call that succeeded.
     pub fn error(&self) -> Option<i32>
         ensures { result ≡ self.now.error }
     {
@@ -113,10 +114,13 @@ impl<W: Write> Write for NoticedWriter<W> {
     fn write(&mut self, buf: &[u8]) -> io::Result<usize>
         ensures bound { WritesAtMost result buf.now }
         ensures bytes { WriteAppends (W.contents self.old.writer) (W.contents self.new.writer) result buf.now }
-        ensures error { IfErr result (λ error. self.new.error ≡ raw_os_error error) }
+        ensures error { MatchResult result (λ _. self.new.error ≡ None) (λ error. self.new.error ≡ raw_os_error error) }
     {
         match self.writer.write(buf) {
-            Ok(n) => Ok(n),
+            Ok(n) => {
+                self.error = None;
+                Ok(n)
+            }
             Err(error) => {
                 self.error = error.raw_os_error();
                 Err(error)
