@@ -37,6 +37,31 @@ pub(crate) trait ChunkDrawer {
     ghost can: { (c : Self) (s : Span) (m : List ℕ) → serves c s m → CanDraw s m };
 }
 
+// Draws chunks as `chunks` does. The loop over them is one of its own for each `K`. The compiler inlines a large loop only
+// if it is called in one place.
+#[derive(Clone, Copy)]
+pub(crate) struct OwnLoop<'a, C, K> {
+    pub(crate) chunks: &'a C,
+    pub(crate) kind: K,
+}
+
+// Names the loop for opaque pixels.
+#[derive(Clone, Copy)]
+pub(crate) struct OfOpaque {}
+
+impl<C: ChunkDrawer, K> ChunkDrawer for OwnLoop<'_, C, K> {
+    ghost serves = { λ own. C.serves own.chunks.now };
+
+    ghost spared = { λ own. C.spared own.chunks.now };
+
+    #[inline(always)]
+    fn draw_chunk<L: Ledger>(&self, vram: &mut Vram, chunk: &Chunk, steps: &mut Steps<L>) {
+        self.chunks.draw_chunk(vram, chunk, steps);
+    }
+
+    ghost can = { λ own. C.can own.chunks.now };
+}
+
 // Draws a span chunk by chunk. `chunks` must serve it.
 #[inline(always)]
 pub(crate) fn draw_chunks<C: ChunkDrawer, L: Ledger>(
@@ -87,7 +112,8 @@ pub(crate) fn draw_by_brush<C: ChunkDrawer, L: Ledger>(
     ensures serves { C.serves chunks.now span.now vram.new }
 {
     if is_opaque(&span.brush) {
-        draw_chunks(vram, &opaque(span), chunks, steps);
+        let kind = OfOpaque {};
+        draw_chunks(vram, &opaque(span), &OwnLoop { chunks, kind }, steps);
     } else {
         let span = *span;
         draw_chunks(vram, &span, chunks, steps);

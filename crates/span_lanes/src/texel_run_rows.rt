@@ -4,8 +4,10 @@ ghost use Rattle.span_lanes.specs.Draws.{DrawsSpan, at_stage};
 ghost use Rattle.span_lanes.specs.CachedClut.{CanTakeTexels};
 ghost use Rattle.span_lanes.specs.SpanDrawer.{IsShadingFor};
 ghost use Rattle.span_lanes.specs.TexelRun.{IsTexelRun};
+ghost use Rattle.span_lanes.specs.RowSetup.{IsRowShading};
+ghost use Rattle.span_lanes.specs.Shade.{IsSpan};
 
-use crate::chunk_loop::draw_by_brush;
+use crate::chunk_loop::{OwnLoop, draw_by_brush};
 use crate::sampler::Sampler;
 use crate::shading::{Shading, row_colors_of, row_shading_of};
 use crate::span::with_dither;
@@ -40,6 +42,13 @@ pub(crate) fn with_raw(texture: &Texture, raw: bool) -> Texture
     Texture { raw, ..*texture }
 }
 
+// Name the loops for dithered pixels and for others.
+#[derive(Clone, Copy)]
+struct OfDithered {}
+
+#[derive(Clone, Copy)]
+struct OfUndithered {}
+
 // Draws a span of raw texels. It must have no hazard.
 #[inline(never)]
 fn draw_raw<S: Sampler + Copy, L: Ledger>(
@@ -60,31 +69,25 @@ fn draw_raw<S: Sampler + Copy, L: Ledger>(
     draw_by_brush(vram, span, &raw, steps);
 }
 
-// Draws a span of texels, modulated by the colours of `shading`. It must have no hazard, and the texture must not be
-// raw.
+// Returns the chunk drawer of texels that are modulated by the colours of `shading`.
 #[inline(always)]
-fn draw_shaded<S: Sampler + Copy, L: Ledger>(
-    vram: &mut Vram,
-    span: &Span,
-    found: &BoundSampler<S>,
-    shading: &Shading,
-    steps: &mut Steps<L>,
-)
-    requires take { CanTakeTexels span.now found.now.texture.now
-        (S.finds found.now.sampler span.now found.now.texture.now) vram.old }
+fn shaded_of<S: Copy>(span: &Span, found: &BoundSampler<S>, shading: &Shading) -> Shaded<S>
+    requires span { IsSpan span.now }
     requires raw { found.now.texture.now.raw ≡ false }
     requires shading { IsShadingFor span.now.paint shading.now }
-    ensures { DrawsSpan span.now 0 (at_stage vram.old steps.old) (at_stage vram.new steps.new) }
+    ensures texture { result.texture ≡ found.now.texture.now }
+    ensures sampler { result.sampler ≡ found.now.sampler }
+    ensures shading { IsRowShading span.now found.now.texture.now result.shading }
 {
-    let shaded = Shaded {
+    Shaded {
         texture: with_raw(found.texture, false),
         sampler: found.sampler,
         shading: row_shading_of(span, found.texture, row_colors_of(span, shading)),
-    };
-    draw_by_brush(vram, span, &shaded, steps);
+    }
 }
 
-// As [`draw_shaded`], for a span that is dithered.
+// Draws a span of texels, modulated by the colours of `shading` and dithered. It must have no hazard, and the texture
+// must not be raw.
 #[inline(never)]
 fn draw_dithered<S: Sampler + Copy, L: Ledger>(
     vram: &mut Vram,
@@ -100,10 +103,15 @@ fn draw_dithered<S: Sampler + Copy, L: Ledger>(
     requires shading { IsShadingFor span.now.paint shading.now }
     ensures { DrawsSpan span.now 0 (at_stage vram.old steps.old) (at_stage vram.new steps.new) }
 {
-    draw_shaded(vram, &with_dither(span, true), found, shading, steps);
+    let span = with_dither(span, true);
+    let own = OwnLoop {
+        chunks: &shaded_of(&span, found, shading),
+        kind: OfDithered {},
+    };
+    draw_by_brush(vram, &span, &own, steps);
 }
 
-// As [`draw_shaded`], for a span that is not dithered.
+// As [`draw_dithered`], for a span that is not dithered.
 #[inline(never)]
 fn draw_undithered<S: Sampler + Copy, L: Ledger>(
     vram: &mut Vram,
@@ -119,7 +127,12 @@ fn draw_undithered<S: Sampler + Copy, L: Ledger>(
     requires shading { IsShadingFor span.now.paint shading.now }
     ensures { DrawsSpan span.now 0 (at_stage vram.old steps.old) (at_stage vram.new steps.new) }
 {
-    draw_shaded(vram, &with_dither(span, false), found, shading, steps);
+    let span = with_dither(span, false);
+    let own = OwnLoop {
+        chunks: &shaded_of(&span, found, shading),
+        kind: OfUndithered {},
+    };
+    draw_by_brush(vram, &span, &own, steps);
 }
 
 // Draws a span of texels by one of three loops: raw, modulated, or modulated and dithered. It must have no hazard.
