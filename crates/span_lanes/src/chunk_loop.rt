@@ -37,8 +37,8 @@ pub(crate) trait ChunkDrawer {
     ghost can: { (c : Self) (s : Span) (m : List ℕ) → serves c s m → CanDraw s m };
 }
 
-// Draws chunks as `chunks` does. The loop over them is one of its own for each `K`. The compiler inlines a large loop only
-// if it is called in one place.
+// Draws chunks as `chunks` does. The loop over them is one of its own for each `K`. The compiler inlines a large loop
+// only if it is called in one place.
 #[derive(Clone, Copy)]
 pub(crate) struct OwnLoop<'a, C, K> {
     pub(crate) chunks: &'a C,

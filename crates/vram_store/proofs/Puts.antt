@@ -1,5 +1,6 @@
 -- Writes of cells of which some keep their values.
-use Rattle.std.proofs.Common.{◌≡◌, ◌<◌, ◌≤◌, inl, inr, ℕ, List, ◌+◌, ◌-◌, ◌^◌, cond, ltb, eqb, length, get_or, arith, refl}
+use Rattle.std.proofs.Common.{◌≡◌, ◌<◌, ◌≤◌, inl, inr, ℕ, List, ◌+◌, ◌-◌, ◌^◌, cond, ltb, eqb, length, get_or}
+use Rattle.std.proofs.Common.{arith, refl}
 use Rattle.std.proofs.Common.{◌∙◌, ◌++◌, ap, zero-add}
 use lib.Lanes.{pick_l, chunk}
 use Rattle.std.specs.List.{range_with_len}
