@@ -1,13 +1,16 @@
 -- Texels of a chunk.
-use Rattle.std.proofs.Common.{◌≡◌, ◌<◌, ℕ, ℤ, List, Option, None, Some, Bool, true}
-use Rattle.std.proofs.Common.{false, cond, eqb, ◌&&◌, ◌||◌, not, ◌+◌, inr, refl, ap}
+use Rattle.std.proofs.Common.{◌≡◌, ◌<◌, ◌≤◌, ℕ, ℤ, zero, suc, List, Option, None, Some, Bool, true}
+use Rattle.std.proofs.Common.{slice_index, sym, false, cond, eqb, ◌&&◌, ◌||◌, not, ◌+◌, inr, refl, ap}
 use Rattle.std.proofs.Common.{◌∙◌, ◌^◌, IsTrue, arith}
 use Rattle.std.proofs.lemmas.Bool.Decides.{nat_tests}
 use Rattle.vram_store.specs.Vram.{at}
-use Rattle.vram_store.specs.Plot.{is_kept, forced, written_over}
+use Rattle.px_num.specs.Fold.{each_below}
+use Rattle.px_num.specs.Lanes.{EachLane}
+use Rattle.vram_store.specs.Plot.{is_kept, forced, written_over, draw_lane, drawn_lanes, later}
 use Rattle.vram_store.specs.Chunk.{IsLane}
 use Rattle.blend_dither.specs.Color.{packed_pixel}
 use Rattle.span_lanes.specs.declared.span.Brush.{Brush}
+use Rattle.span_lanes.specs.declared.span.Chunk.{Chunk}
 use Rattle.texel_lanes.specs.declared.texture.Texture.{Texture}
 use Rattle.span_lanes.specs.declared.span.Paint.{Paint}
 use Rattle.span_lanes.specs.declared.span.Paint.TheVariants.{Flat, Shaded, TexturedTri, TexturedRow}
@@ -16,7 +19,9 @@ use Rattle.texel_lanes.specs.Texture.{texel}
 use Rattle.span_lanes.specs.Shade.{texture_of, textured_pixel, blended_if, modulated_texel, is_high, dither_of}
 use Rattle.span_lanes.specs.Shade.{paint_pixel, shade}
 use Rattle.span_lanes.specs.Lanes.{IsDrawnOver}
-use Rattle.span_lanes.specs.Paints.{paint_color, paint_u, paint_v}
+use Rattle.span_lanes.specs.Chunk.{chunk_place, drawn_chunk}
+use Rattle.span_lanes.specs.RowSetup.{HasTexels}
+use Rattle.span_lanes.specs.Paints.{paint_color, paint_u, paint_v, chunk_u, chunk_v}
 
 -- a halfword has its own bit 15
 pub as_it_is : (h : ℕ) → h < 2 ^ 16 → h ≡ packed_pixel h (is_high h) false
@@ -72,3 +77,19 @@ textured_lane mask cell pixel brush raw color shift t p front b h is front_is pl
     by_texel true q same e = inr e
     by_texel false q same e = by_kept (is_kept mask cell) (forced mask q)
         (e ∙ ap (λ (n : ℕ). cond (is_kept mask cell) cell (forced mask n)) same)
+
+none_drawn : (shade : ℕ → List ℕ → Option ℕ) (mask start n : ℕ) (m : List ℕ)
+    → ((j : ℕ) → j < n → shade j m ≡ None) → each_below (draw_lane shade mask start) n m ≡ m
+none_drawn shade mask start zero m none = refl
+none_drawn shade mask start (suc n) m none =
+    rw (none_drawn shade mask start n m (λ j lt. none j (omega arith)), none n (omega arith)) refl
+
+-- a chunk whose texels are all 0 changes nothing
+pub empty_chunk : (t : Texture) (p : Chunk) (m texels : List ℕ) → texture_of p.span.now.paint ≡ Some t
+    → HasTexels t p m texels → p.k ≤ 16 → EachLane (λ i. slice_index texels i ≡ 0) → m ≡ drawn_chunk p m
+unfolding drawn_lanes textured_pixel
+empty_chunk t p m texels is has few empty =
+    let span = p.span.now in
+    sym (none_drawn (later (shade span) p.first) span.brush.mask (chunk_place span p.first) p.k m (λ j lt.
+    let none : texel t (chunk_u p j) (chunk_v p j) m ≡ 0 = sym (has.value j lt) ∙ empty j (omega arith) in
+    shade_textured span t (p.first + j) (span.x + p.first + j) m is (omega arith) ∙ rw none refl))

@@ -23,7 +23,7 @@
 //   `draw_contiguous_tri` draws contiguous rows without a hazard by the loops above. [triangle 15-bit raw, edge of
 //   its page]
 //
-// Rectangles that cache their CLUT for all rows have four more loops of `CachedClut<TexelRun>`, in
+// Rectangles that cache their CLUT for all rows have four more loops, of `CachedClut<SpriteRun>`, in
 // `CachedClutRows::draw_row` [rectangle, sprite 4-bit], and for eight-bit texels two of `CachedClut256`, opaque or not,
 // in `CachedClut256Rows::draw_row` [rectangle 8-bit modulated]. `ContiguousRows` draws other contiguous rows without a
 // hazard by the loops of `draw_raw` and `draw_undithered`. [rectangle 15-bit raw]

@@ -7,6 +7,7 @@ use crate::draw::draw_row;
 use crate::modulated::ColoredClut;
 use crate::sampler::FlatTexels;
 use crate::texel_rows::TexelRow;
+use crate::texel_run_samplers::SpriteRun;
 use crate::{RowAt, RowDrawer, Run, TexelRows};
 use std::sync::ledger::Ledger;
 use vram_store::{Steps, Vram};
@@ -154,11 +155,12 @@ impl TexelRowsMethod for CachedClutRows {
         steps: &mut Steps<L>,
     ) {
         let span = rows.span(at);
-        let texel_run = rows.texel_run(at.v);
         let texels = FlatTexels {
             texture: &rows.texture,
             color: rows.color,
-            sampler: texel_run,
+            sampler: SpriteRun {
+                texel_run: rows.texel_run(at.v),
+            },
         };
         draw_cached(vram, &span, &texels, &mut self.last, steps);
     }

@@ -52,6 +52,9 @@ pub(crate) trait IndexSampler {
     ghost use Rattle.span_lanes.specs.declared.span.Span.{Span};
     ghost use Rattle.texel_lanes.specs.declared.texture.Texture.{Texture};
 
+    // Whether a chunk is skipped if all its texels are 0.
+    const SKIPS_EMPTY_CHUNKS: bool = false;
+
     ghost finds: { Self → Span → Texture → Type 0 };
 
     fn read_indexes<L: Ledger>(

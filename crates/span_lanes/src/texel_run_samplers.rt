@@ -133,3 +133,28 @@ impl IndexSampler for TexelRun {
         sixteen_indexes(vram, texture.page.x, u, self.y, steps)
     }
 }
+
+// Contiguous texels of four bits in a rectangle. Sprites often have parts without a visible pixel.
+#[derive(Clone, Copy)]
+pub(crate) struct SpriteRun {
+    pub(crate) texel_run: TexelRun,
+}
+
+impl IndexSampler for SpriteRun {
+    ghost use Rattle.span_lanes.specs.TexelRun.{IsTexelRun};
+
+    const SKIPS_EMPTY_CHUNKS: bool = true;
+
+    ghost finds = { λ sprite s t. IsTexelRun s t sprite.texel_run };
+
+    #[inline(always)]
+    fn read_indexes<L: Ledger>(
+        &self,
+        vram: &Vram,
+        texture: &Texture,
+        chunk: &Chunk,
+        steps: &mut Steps<L>,
+    ) -> u8x16 {
+        self.texel_run.read_indexes(vram, texture, chunk, steps)
+    }
+}

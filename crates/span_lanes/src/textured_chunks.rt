@@ -16,7 +16,7 @@ use crate::sampler::{IndexSampler, Sampler};
 use crate::shaded::shaded_texels;
 use crate::shading::RowShading;
 use crate::span::Chunk;
-use px_num::lanes::{splat, where_equal};
+use px_num::lanes::{are_zero, splat, where_equal};
 use std::simd::prelude::*;
 use std::sync::ledger::Ledger;
 use vram_store::mask::{force_lanes, over_lanes};
@@ -188,7 +188,9 @@ impl<S: IndexSampler> ChunkDrawer for CachedClut<'_, S> {
     fn draw_chunk<L: Ledger>(&self, vram: &mut Vram, chunk: &Chunk, steps: &mut Steps<L>) {
         let index = self.sampler.read_indexes(vram, &self.texture, chunk, steps);
         let drawn = texels_by_index(self.colored_clut, self.texture.raw, index);
-        draw_texels(vram, &self.texture, drawn, chunk, steps);
+        if !S::SKIPS_EMPTY_CHUNKS || !are_zero(drawn.texels) {
+            draw_texels(vram, &self.texture, drawn, chunk, steps);
+        }
     }
 
     ghost can = { λ c s m serves. serves.can.sample.can };

@@ -1,5 +1,5 @@
 -- Four and eight bits of a halfword.
-use Rattle.std.proofs.Common.{◌≡◌, ◌<◌, ℕ, zero, suc, ◌-◌, ◌*◌, ◌/◌, ◌%◌, ◌^◌, List, ◌∷◌, get_or, cond, eqb}
+use Rattle.std.proofs.Common.{◌≡◌, ◌<◌, ℕ, zero, suc, ◌+◌, ◌-◌, ◌*◌, ◌/◌, ◌%◌, ◌^◌, List, ◌∷◌, get_or, cond, eqb}
 use Rattle.std.proofs.Common.{refl, ap, arith}
 use Rattle.texture_page.specs.Page.{index_in}
 use Rattle.texel_lanes.specs.Nibbles.{raise, raise_byte}
@@ -61,3 +61,14 @@ unfolding raise_byte
 raised_byte rest zero lt = refl
 raised_byte rest (suc zero) lt = refl
 raised_byte rest (suc (suc i)) lt = absurd (omega arith)
+
+by_byte : (low high at : ℕ) → at < 2 → low < 256 → high < 256
+    → cond (eqb at 0) low high ≡ (low + 256 * high) / 2 ^ (8 * at) % 256
+by_byte low high zero lt l h = omega arith
+by_byte low high (suc zero) lt l h = omega arith
+by_byte low high (suc (suc at)) lt l h = absurd (omega arith)
+
+-- the eight bits of a column are the low or the high byte of its halfword
+pub byte_of_two : (low high a : ℕ) → low < 256 → high < 256
+    → cond (eqb (a % 2) 0) low high ≡ index_in 1 a (low + 256 * high)
+byte_of_two low high a l h = by_byte low high (a % 2) (omega arith) l h

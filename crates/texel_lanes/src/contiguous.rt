@@ -11,11 +11,10 @@ use crate::coordinates::Coordinates;
 use crate::gather::Gather;
 use crate::halfwords::halfwords_of;
 use crate::nibbles::{nibbles, nibbles_from};
-use crate::octets::octets;
-use crate::table::halfwords_at;
+use crate::octets::octets_from;
 use crate::texel_cells::texel_cells_of;
 use px_num::halves::HALF;
-use px_num::lanes::{add, ramp, same, shifted_down, splat};
+use px_num::lanes::{add, ramp, same, splat};
 use std::simd::prelude::*;
 use std::sync::ledger::Ledger;
 use vram_store::{Steps, Vram};
@@ -117,9 +116,8 @@ pub fn sixteen_octets<L: Ledger>(
     ensures value { EachLane (λ i. slice_index result i ≡ index_in 1 (u + i) (at vram.now (page + (u + i) / 2) y)) }
     ensures cost { steps.new ≤ steps.old + 1 }
 {
-    let across = add(splat(u % 2), ramp());
     let cells = vram.load16(page + u / 2, y, 16, steps);
-    octets(across, halfwords_at(cells, shifted_down(across, 1)))
+    octets_from((u % 2) as u8, cells)
 }
 
 // Returns the indexes of sixteen contiguous texels of four bits.

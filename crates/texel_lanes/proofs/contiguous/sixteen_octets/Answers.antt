@@ -7,19 +7,13 @@ pub returns-clause-value : goal.returns-clause-value
 returns-clause-value g c = λ j lane.
     let m = c.args.vram.now in
     let u : ℕ = c.args.u in
-    let across : get_or c.add-across.result j 0
-    ≡ u % 2 + j = cc
-    (c.add-across.ensures.value j lane, c.splat.ensures.value j lane, c.ramp.ensures.value j lane) in
-    let at : get_or c.shifted_down.result j 0 ≡ (u % 2 + j) / 2 = c.shifted_down.ensures.value j lane
-    ∙ ap (λ (n : ℕ). n / 2) across in
     let few : (u % 2 + j) / 2 < 16 = omega arith in
     let place : 1024 * c.args.y + (c.args.page + u / 2) + (u % 2 + j) / 2
     ≡ 1024 * c.args.y + (c.args.page + (u + j) / 2) = omega arith in
-    let h : get_or c.halfwords_at.result j 0 ≡ get_or m (1024 * c.args.y + (c.args.page + (u + j) / 2)) 0 =
-    c.halfwords_at.ensures.value j lane ∙ ap (λ (n : ℕ). get_or c.load16-cells.result n 0) at
-    ∙ c.load16-cells.ensures.lanes.cells ((u % 2 + j) / 2) few ∙ ap (λ (n : ℕ). get_or m n 0) place in
+    let h : get_or c.load16-cells.result ((u % 2 + j) / 2) 0
+    ≡ get_or m (1024 * c.args.y + (c.args.page + (u + j) / 2)) 0 =
+    c.load16-cells.ensures.lanes.cells ((u % 2 + j) / 2) few ∙ ap (λ (n : ℕ). get_or m n 0) place in
     let column : (u % 2 + j) % 2 ≡ (u + j) % 2 = omega arith in
-    c.octets.ensures.value j lane
-    ∙ ap (λ (n : ℕ). index_in 1 n (get_or c.halfwords_at.result j 0)) across
-    ∙ same_half (u % 2 + j) (u + j) (get_or c.halfwords_at.result j 0) column
+    c.octets_from.ensures.value j lane
+    ∙ same_half (u % 2 + j) (u + j) _ column
     ∙ ap (λ (n : ℕ). index_in 1 (u + j) n) h

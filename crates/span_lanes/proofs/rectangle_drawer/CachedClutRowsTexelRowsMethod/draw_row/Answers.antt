@@ -7,7 +7,7 @@ draw_cached-requires-clause-can g c =
     (can_color_row 0 c.args.rows.now c.args.at.y c.args.at.v c.args.vram.now c.requires.ready.0 c.requires.can)
 
 pub draw_cached-requires-clause-finds : goal.draw_cached-requires-clause-finds
-draw_cached-requires-clause-finds g c = rw c.span-span.ensures (c.texel_run-texel_run.ensures c.args.at.y)
+draw_cached-requires-clause-finds g c = rw c.span-span.ensures (c.texel_run.ensures c.args.at.y)
 
 pub returns-clause-drawn : goal.returns-clause-drawn
 returns-clause-drawn g c = rw c.span-span.ensures at c.draw_cached.ensures.drawn

@@ -1,9 +1,29 @@
-use Rattle.std.proofs.Common.{◌≡◌, ◌+◌, ◌&&◌, not, ℕ, ◌<◌, ◌∙◌, refl, arith}
+use Rattle.std.proofs.Common.{◌≡◌, ◌+◌, ◌&&◌, not, ℕ, List, length, slice_index, ◌<◌, ◌≤◌, ◌∙◌, refl, arith}
+use Rattle.px_num.specs.Lanes.{EachLane}
+use Rattle.texel_lanes.specs.declared.texture.Texture.{Texture}
+use Rattle.texel_lanes.specs.Table.{entry_at}
+use Rattle.span_lanes.specs.declared.modulated.ColoredClut.{ColoredClut}
+use Rattle.span_lanes.specs.declared.span.Chunk.{Chunk}
+use Rattle.span_lanes.specs.CachedClut.{HasIndexes}
+use Rattle.span_lanes.specs.ColoredClut.{IsColoredClutOf}
+use Rattle.span_lanes.specs.RowSetup.{HasTexels}
+use Rattle.span_lanes.proofs.TexelLemmas.{empty_chunk}
 use Rattle.span_lanes.proofs.ColorLemmas.{no_shift}
 use Rattle.span_lanes.proofs.ColoredClutLemmas.{clut_missed, swatches_kept}
 use Rattle.span_lanes.proofs.PlanLemmas.{apart_cost}
 use Rattle.span_lanes.proofs.ChunkDrawLemmas.{sample_stays}
 use Rattle.span_lanes.proofs.textured_chunks.CachedClutChunkDrawer.draw_chunk.Goals as goal
+
+-- the entries at the indexes of a chunk's texels are its texels
+cached_texels : (t : Texture) (p : Chunk) (m index texels : List ℕ) (cached : ColoredClut)
+    → IsColoredClutOf t m cached → HasIndexes t 16 p m index → p.k ≤ 16 → length texels ≡ 16
+    → EachLane (λ i. slice_index texels i ≡ entry_at cached.entries (slice_index index i)) → HasTexels t p m texels
+cached_texels t p m index texels cached clut has few long entry = record {
+  long = long;
+  value = λ j lt.
+      let lane : j < 16 = omega arith in
+      entry j lane ∙ clut.entry _ (has.low j lane) ∙ has.entry j lt;
+}
 
 pub draw_texels-requires-clause-free : goal.draw_texels-requires-clause-free
 draw_texels-requires-clause-free g c =
@@ -15,14 +35,9 @@ draw_texels-requires-clause-drawn g c =
     let chunk = c.args.chunk.now in
     let span = chunk.span.now in
     record {
-      texels = record {
-        long = c.texels_by_index-drawn.ensures.long.0;
-        value = λ j lt.
-            let lane : j < 16 = omega arith in
-            c.texels_by_index-drawn.ensures.texels j lane
-            ∙ c.requires.serves.entries.entry _ (c.read_indexes-index.ensures.indexes.low j lane)
-            ∙ c.read_indexes-index.ensures.indexes.entry j lt;
-      };
+      texels = cached_texels c.args.self.now.texture chunk c.args.vram.now _ c.texels_by_index-drawn.result.texels
+          c.args.self.now.colored_clut.now c.requires.serves.entries c.read_indexes-index.ensures.indexes
+          c.requires.chunk.few c.texels_by_index-drawn.ensures.long.0 c.texels_by_index-drawn.ensures.texels;
       long = c.texels_by_index-drawn.ensures.long.1;
       front = λ j lt.
           let x : ℕ = span.x + chunk.first + j in
@@ -34,8 +49,8 @@ draw_texels-requires-clause-drawn g c =
           (c.texels_by_index-drawn.ensures.modulated j lane);
     }
 
-pub returns-clause-drawn : goal.returns-clause-drawn
-returns-clause-drawn g c =
+pub returns-then-not-SKIPS_EMPTY_CHUNKS-clause-drawn : goal.returns-then-not-SKIPS_EMPTY_CHUNKS-clause-drawn
+returns-then-not-SKIPS_EMPTY_CHUNKS-clause-drawn g c =
     let chunk = c.args.chunk.now in
     let suits = c.requires.serves.can.suits in
     let cost = (rw suits.depth at
@@ -47,8 +62,8 @@ returns-clause-drawn g c =
       cost = omega (arith, cost, c.read_indexes-index.ensures.cost, c.draw_texels.ensures.cost);
     }
 
-pub returns-clause-serves : goal.returns-clause-serves
-returns-clause-serves g c =
+pub returns-then-not-SKIPS_EMPTY_CHUNKS-clause-serves : goal.returns-then-not-SKIPS_EMPTY_CHUNKS-clause-serves
+returns-then-not-SKIPS_EMPTY_CHUNKS-clause-serves g c =
     let is = c.requires.serves in
     let part = c.requires.chunk in
     let chunk = c.args.chunk.now in
@@ -66,3 +81,23 @@ returns-clause-serves g c =
       entries = swatches_kept c.args.self.now.texture (chunk.span.now.x + chunk.first) chunk.span.now.y chunk.k _ _ _
           c.draw_texels.ensures.others (omega arith) none is.entries;
     }
+
+pub returns-else-not-are_zero-clause-drawn : goal.returns-else-not-are_zero-clause-drawn
+returns-else-not-are_zero-clause-drawn g c =
+    let chunk = c.args.chunk.now in
+    let texture = c.args.self.now.texture in
+    let sample = c.requires.serves.can.sample in
+    let suits = c.requires.serves.can.suits in
+    let cost = (rw suits.depth at (apart_cost chunk texture c.requires.chunk suits.hazard_free sample.texture)) in
+    let texels = cached_texels texture chunk c.args.vram.now _ c.texels_by_index-drawn.result.texels
+    c.args.self.now.colored_clut.now c.requires.serves.entries c.read_indexes-index.ensures.indexes
+    c.requires.chunk.few c.texels_by_index-drawn.ensures.long.0 c.texels_by_index-drawn.ensures.texels in
+    record {
+      cells = empty_chunk texture chunk c.args.vram.now _ sample.texture texels c.requires.chunk.few
+          (c.are_zero.ensures.0 (rw c.if-not-are_zero.false refl));
+      long = refl;
+      cost = omega (arith, cost, c.read_indexes-index.ensures.cost);
+    }
+
+pub returns-else-not-are_zero-clause-serves : goal.returns-else-not-are_zero-clause-serves
+returns-else-not-are_zero-clause-serves g c = c.requires.serves
