@@ -151,6 +151,9 @@ class Outputs(support.InFolder):
             os.close(ours)
 
     def test_interrupted(self):
+        # A process that was started in the background may ignore SIGINT, and so would its children.
+        before = signal.signal(signal.SIGINT, signal.default_int_handler)
+        self.addCleanup(signal.signal, signal.SIGINT, before)
         for number in (signal.SIGINT, signal.SIGTERM):
             self.write('out', b'old')
             for name, words in (('first', ['9', '-', 'out']), ('from-log', ['-', 'out']), ('picture', ['-', 'out'])):
