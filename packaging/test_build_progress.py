@@ -120,6 +120,9 @@ class Progress(unittest.TestCase):
         self.assertNotIn('begin low 1', self.calls())
 
     def test_an_interrupt(self) -> None:
+        # A process that was started in the background may ignore SIGINT, and so would its children.
+        before = signal.signal(signal.SIGINT, signal.default_int_handler)
+        self.addCleanup(signal.signal, signal.SIGINT, before)
         for which in signal.SIGINT, signal.SIGTERM:
             with self.subTest(which=which):
                 run = self.begin('1', SLOW='left')
