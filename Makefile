@@ -81,7 +81,7 @@ endef
 
 $(OUT)/$(SONAME): $(OUT)/libpsxgpu.a c/psxgpu.map
 	$(call link_shared,$(OUT)/libpsxgpu.a)
-	ln -sf $(SONAME) $(OUT)/libpsxgpu.so
+	ln -f $@ $(OUT)/libpsxgpu.so
 
 # The archive for newer processors. The proofs are those of the usual build, and its archive stays.
 $(NEWER)/libpsxgpu.a: $(OUT)/libpsxgpu.a
