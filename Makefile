@@ -79,6 +79,7 @@ define link_shared
 	  -Wl,--whole-archive $(1) -Wl,--no-whole-archive -o $@
 endef
 
+# The second name is a hard link, since `rt ci` stops at a symbolic one.
 $(OUT)/$(SONAME): $(OUT)/libpsxgpu.a c/psxgpu.map
 	$(call link_shared,$(OUT)/libpsxgpu.a)
 	ln -f $@ $(OUT)/libpsxgpu.so
