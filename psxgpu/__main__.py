@@ -1,4 +1,4 @@
-"""Runs the tools of this project: psxgpu NAME .. (in a checkout: python3 -m psxgpu NAME ..).
+"""Runs the tools of this project: psxgpu NAME .. (in a checkout: bin/psxgpu NAME ..).
 
 `psxgpu NAME --help` explains the arguments of a tool, `psxgpu --version` prints the version.
 Status: 0 equal, or done; 1 different, or something to look at; 2 an error, with one line on standard error.
