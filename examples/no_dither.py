@@ -9,7 +9,8 @@ import os
 import subprocess
 import sys
 
-sys.path.append(os.path.dirname(os.path.dirname(os.path.abspath(__file__))))     # in a checkout, which need not be installed
+# A checkout need not be installed.
+sys.path.append(os.path.dirname(os.path.dirname(os.path.abspath(__file__))))
 
 from psxgpu.capture import Capture  # noqa: E402
 from psxgpu.packets.split import ENVIRONMENT  # noqa: E402

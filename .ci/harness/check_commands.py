@@ -55,7 +55,7 @@ def stand_in(folder, player):
     for name in filter(in_root, ('examples', 'psxgpu', 'docs', 'bench')):
         shutil.copytree(os.path.join(ROOT, name), os.path.join(folder, name),
                         ignore=shutil.ignore_patterns('__pycache__'))
-    for name in filter(in_root, ('crates', 'systems', 'Makefile', 'README.md')):
+    for name in filter(in_root, ('crates', 'recorder', 'systems', 'Makefile', 'README.md')):
         os.symlink(os.path.join(ROOT, name), os.path.join(folder, name))
     os.mkdir(os.path.join(folder, 'bin'))
     os.symlink(os.path.abspath(player), os.path.join(folder, 'bin', 'psxgpu_tool'))
