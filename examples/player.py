@@ -12,7 +12,7 @@ import sys
 # A checkout need not be installed.
 sys.path.append(os.path.dirname(os.path.dirname(os.path.abspath(__file__))))
 
-from psxgpu.command import Trouble  # noqa: E402
+from psxgpu.command import ToolError  # noqa: E402
 from psxgpu.stream import GP0, GP1, READ, SKIP, STAT, Stream, little  # noqa: E402
 from toy_gpu import Gpu  # noqa: E402
 
@@ -34,13 +34,13 @@ def play(gpu, kind, count, words, out):
         if kind == READ:
             out += ['%08x\n' % word for word in read]
     else:
-        raise Trouble('main memory and DMA are not supported')
+        raise ToolError('main memory and DMA are not supported')
 
 
 def output_of(mode, stream):
     """Plays a capture. Returns what the mode writes."""
     if stream.version == 3:
-        raise Trouble('video memory of 1024 rows is not supported')
+        raise ToolError('video memory of 1024 rows is not supported')
     gpu, lines = Gpu(), []
     for record in stream:
         play(gpu, *record, lines)
@@ -50,7 +50,7 @@ def output_of(mode, stream):
         return little(gpu.vram).tobytes()
     width, height, pixels = gpu.picture()
     if not pixels:
-        raise Trouble('no picture')
+        raise ToolError('no picture')
     return b'P6\n%d %d\n255\n' % (width, height) + pixels
 
 
@@ -63,7 +63,7 @@ def main(words):
         sys.stdout.buffer.write(output_of(words[0], Stream(sys.stdin.buffer, 'standard input')))
         sys.stdout.flush()
         return DONE
-    except Trouble as error:
+    except ToolError as error:
         print('player.py: %s' % error, file=sys.stderr)
         return REFUSED
 

@@ -8,7 +8,7 @@ from __future__ import annotations
 import json
 from typing import Dict, Iterable, List, Sequence
 
-from psxgpu.command import Trouble, read_whole, title
+from psxgpu.command import ToolError, read_whole, title
 from psxgpu.conformance.judging import DIFFERS, FAILED, KINDS, PASSED, Verdict
 from psxgpu.conformance.report import as_json, counted_kinds
 
@@ -17,15 +17,15 @@ Known = Dict[str, str]              # full name: the verdict
 
 
 def read_known(path: str) -> Known:
-    """Returns the verdicts of a file. Raises Trouble if it is none of --keep-expected or --json."""
+    """Returns the verdicts of a file. Raises ToolError if it is none of --keep-expected or --json."""
     try:
         rows = json.loads(read_whole(path))
         known = {str(name): row[0] for name, row in rows.items()}
     except (ValueError, AttributeError, TypeError, LookupError, RecursionError):
-        raise Trouble('%s: not a file of --keep-expected' % title(path)) from None
+        raise ToolError('%s: not a file of --keep-expected' % title(path)) from None
     for name, kind in known.items():
         if kind not in KINDS:
-            raise Trouble('%s: %s: not a verdict: %r' % (title(path), name, kind))
+            raise ToolError('%s: %s: not a verdict: %r' % (title(path), name, kind))
     return known
 
 
