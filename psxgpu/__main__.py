@@ -13,8 +13,9 @@ from typing import List, Optional
 
 from psxgpu import __version__, command
 
-TOOLS = ('corpus', 'packets', 'check', 'first', 'join', 'mend', 'from-log', 'from-dump', 'to-dump', 'to-exe', 'picture',
-         'film', 'textures', 'heat', 'compare', 'bisect', 'agree', 'audit', 'reduce', 'conform', 'selftest')
+TOOLS = ('corpus', 'packets', 'check', 'first', 'trim', 'join', 'mend', 'from-log', 'from-dump', 'to-dump', 'to-exe',
+         'picture', 'film', 'textures', 'heat', 'diff', 'compare', 'bisect', 'agree', 'audit', 'reduce', 'conform',
+         'selftest')
 
 
 def module_of(name: str) -> ModuleType:

@@ -1,6 +1,6 @@
 """Tests of the reader's half of psxgpu_capture.h. It is compiled as C99 and as C++17, with sanitizers. Both give the
-events that psxgpu.capture gives, and where PLAYER names the built program, they refuse the captures that it refuses, with
-its line."""
+events that psxgpu.capture gives, and where PLAYER names the built program, they refuse the captures that it refuses,
+with its line."""
 import errno
 import glob
 import gzip
@@ -111,7 +111,8 @@ class Reader(unittest.TestCase):
         self.assertEqual(self.both(data), (2, list(events_before), line + '\n'))
 
     def expect_as_the_player(self, data):
-        """The refusal of the player, with its event. Returns the status, the events before it and the player's `flat`."""
+        """The refusal of the player, with its event. Returns the status, the events before it and what the player
+        writes for `flat`."""
         status, lines, said = self.both(data)
         done = subprocess.run([PLAYER, 'flat'], input=data, stdout=subprocess.PIPE, stderr=subprocess.PIPE, check=False)
         refused = done.stderr.decode().split('\n')[0]

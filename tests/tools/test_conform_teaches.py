@@ -24,8 +24,9 @@ class Lines(unittest.TestCase):
     def test_packets_and_their_fields(self):
         self.assertEqual(self.lines('copies/bits-above'), [
             'copy 80000000 fe04fc0a fe09fc14 fe01fc02 | source (10, 4), target (20, 9), size 2 by 1'])
-        self.assertEqual(self.lines('mask/forces-bit-15')[0],
-                         'rectangle 600000ff 00000000 00010002 | corner (0, 0), size 2 by 1; colour 255 0 0; mask setting 1')
+        self.assertEqual(
+            self.lines('mask/forces-bit-15')[0],
+            'rectangle 600000ff 00000000 00010002 | corner (0, 0), size 2 by 1; colour 255 0 0; mask setting 1')
 
     def test_control_words_dma_and_what_is_not_whole(self):
         self.assertEqual(self.lines('status/23-display-off'),

@@ -26,7 +26,8 @@ def random_capture(r):
         cells = [r.getrandbits(16) for _ in range(w * h)]
         out.gp0(r.choice((c.fill(r.getrandbits(24), x // 16 * 16, y, 16, h), c.load(x, y, w, h, cells),
                           c.rectangle(r.getrandbits(24), x, y, w, h), c.mask_setting(r.random() < .3, r.random() < .3),
-                          c.drawing_offset(r.randrange(9), r.randrange(9)), c.interrupt(), c.texture_window(1, 2, 3, 4))))
+                          c.drawing_offset(r.randrange(9), r.randrange(9)), c.interrupt(),
+                          c.texture_window(1, 2, 3, 4))))
         if r.random() < .5:
             out.gp0(c.store(x, y, w, h)).read(r.randrange(1, 9)).stat()
         if r.random() < .3:
@@ -80,13 +81,14 @@ class Players(support.InFolder):
         for capture, text in ((c.Capture().stat().dma(2, 0x1000, 1, 0), 'main memory and DMA are not supported'),
                               (c.Capture().ram(0, 1), 'main memory and DMA are not supported'),
                               (c.Capture(2).turn(), 'main memory and DMA are not supported'),
-                              (c.Capture(3).stat(), '1024 rows')):
+                              (c.Capture(3).stat(), '1024 rows is not supported')):
             for done in self.run_each(capture.bytes(), 'vram'):
                 self.assertEqual((done.returncode, done.stdout), (2, b''))
-                self.assertRegex(done.stderr.decode(), '^player.*: .*%s is not supported\n$|^player.*: .*%s\n$' % (text, text))
+                self.assertRegex(done.stderr.decode(), '^player.*: .*%s\n$' % text)
 
     def test_damaged_captures_and_wrong_arguments(self):
-        for data in (b'', b'PSXGPUC9', c.Capture().gp0(1, 2, 3).bytes()[:-6], b'PSXGPUC1' + struct.pack('<I', 0x11000000)):
+        bad_tag = b'PSXGPUC1' + struct.pack('<I', 0x11000000)
+        for data in (b'', b'PSXGPUC9', c.Capture().gp0(1, 2, 3).bytes()[:-6], bad_tag):
             for done in self.run_each(data, 'vram'):
                 self.assertEqual((done.returncode, done.stdout, done.stderr.count(b'\n')), (2, b'', 1))
         for words in ([], ['draw'], ['vram', 'play']):
