@@ -13,7 +13,7 @@ import sys
 sys.path.append(os.path.dirname(os.path.dirname(os.path.abspath(__file__))))
 
 from psxgpu.capture import Capture  # noqa: E402
-from psxgpu.packets.split import ENVIRONMENT  # noqa: E402
+from psxgpu.packets.grammar import ENVIRONMENT  # noqa: E402
 from psxgpu.players import player  # noqa: E402
 from psxgpu.players.steps import Cutter  # noqa: E402
 from psxgpu.stream import GP0, Stream  # noqa: E402

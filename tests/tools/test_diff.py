@@ -48,7 +48,8 @@ class Unified(unittest.TestCase):
         side = Side('a', [Text(1, ('x',))])
         self.assertEqual(list(unified(side, side)), [])
         self.assertEqual(list(unified(Side('a', []), Side('b', []))), [])
-        self.assertEqual(list(unified(Side('a', []), side)), ['--- a', '+++ a', '@@ -0,0 +1,1 @@ the end, event 1', '+x'])
+        self.assertEqual(list(unified(Side('b', []), side)),
+                         ['--- b', '+++ a', '@@ -0,0 +1,1 @@ the end, event 1', '+x'])
 
 
 @support.needs_player

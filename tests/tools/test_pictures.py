@@ -187,8 +187,9 @@ class OfCaptures(support.InFolder):
         self.write('dump', bytes(2048))
         for words, text in ((['in', '-o', 'x', '--at', '12'], 'in: it has 11 events'), (['in'], 'name one picture'),
                             (['in', 'x', '-o', 'y'], 'name one picture'), (['in', 'in'], 'in is also the input'),
-                            (['part', 'x', '--at', '5'], 'part: it begins after event 6'), (['cut', 'x'], 'truncated at'),
-                            (['none', 'x'], 'none: psxgpu: no-picture'), (['dump', 'x', '--at', '1'], 'not a capture'),
+                            (['part', 'x', '--at', '5'], 'part: it begins after event 6'),
+                            (['cut', 'x'], 'cut: psxgpu: truncated at'), (['none', 'x'], 'none: psxgpu: no-picture'),
+                            (['dump', 'x', '--at', '1'], 'dump: not a capture'),
                             (['dump', 'x', '--vram'], '--vram is for captures')):
             self.assertIn(text, self.picture(*words, status=2))
         self.assertFalse(os.path.exists(self.path('x')))
