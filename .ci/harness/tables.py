@@ -23,6 +23,7 @@ from table_readers import (TAGS, Absent, Reader, Table, c_constants, c_lengths, 
                            rattle_modes, scripts)
 
 
+from examples import toy_gpu
 from suite_trials.model.packets import Packets
 from psxgpu import records
 from psxgpu.machine import MODES
@@ -54,7 +55,7 @@ def length_copies() -> List[Copy]:
             *in_scripts('const LENGTHS =', lambda path: numbered(js_value(path, 'LENGTHS', 'Array.from(LENGTHS)'))),
             Copy('recorder/ports.h', lambda: c_lengths('recorder/ports.h', 'packet_words')),
             Copy(TOY + '.h', lambda: c_lengths(TOY + '.h', 'length_of')),
-            Copy(TOY + '.py', lambda: {k: importlib.import_module('examples.toy_gpu').length_of(k << 24) for k in range(256)})]
+            Copy(TOY + '.py', lambda: {k: toy_gpu.length_of(k << 24) for k in range(256)})]
 
 
 def tag_copies() -> List[Copy]:

@@ -110,10 +110,10 @@ def status_of(verdicts: List[Verdict], news: List[Verdict], words: argparse.Name
 def show(verdicts: List[Verdict], words: argparse.Namespace, known: expected.Known) -> int:
     """Prints what is found, the table last. Returns the status."""
     comparison = expected.Comparison(verdicts, known)
-    lines = [] if words.quiet else report.lines(comparison.news) + report.not_taken(comparison.news)
-    if words.expect:
-        lines += comparison.lines()
-    print('\n'.join([*lines, report.table(verdicts)]))
+    if not words.quiet:
+        lines = report.lines(comparison.news) + report.not_taken(comparison.news)
+        print(''.join(line + '\n' for line in lines + (comparison.lines() if words.expect else [])), end='')
+    print(report.table(verdicts))
     return status_of(verdicts, comparison.news, words)
 
 
