@@ -1,16 +1,11 @@
 #!/usr/bin/env python3
-"""The library passes the conformance suite in this process, after `make lib`: python3 tests/library/test_conformance.py"""
-import os
-import sys
+"""The library passes the conformance suite in this process, after `make lib`: python3 -m unittest tests.library.test_conformance"""
 import unittest
 
-ROOT = os.path.dirname(os.path.dirname(os.path.dirname(os.path.abspath(__file__))))
-sys.path.insert(0, ROOT)
-
-from psxgpu.commands.conform import every_test  # noqa: E402
-from psxgpu.conformance.judging import PASSED, Judge  # noqa: E402
-from psxgpu.players.named import LibraryPlayer, player_of  # noqa: E402
-from tests.library.support import needs_library  # noqa: E402
+from psxgpu.commands.conform import every_test
+from psxgpu.conformance.judging import PASSED, Judge
+from psxgpu.players.named import LibraryPlayer, player_of
+from tests.library.support import needs_library
 
 setUpModule = needs_library
 

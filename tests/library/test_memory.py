@@ -1,16 +1,12 @@
 #!/usr/bin/env python3
-"""Tests of psxgpu.py: main memory, DMA, snapshots and notes: python3 tests/library/test_memory.py"""
+"""Tests of psxgpu.py: main memory, DMA, snapshots and notes: python3 -m unittest tests.library.test_memory"""
 import os
-import sys
 import tempfile
 import unittest
 
-ROOT = os.path.dirname(os.path.dirname(os.path.dirname(os.path.abspath(__file__))))
-sys.path.insert(0, ROOT)
-
-import psxgpu  # noqa: E402
-from psxgpu.capture import BLOCKS_IN, BLOCKS_OUT, LIST, copy, drawing_area, fill, load, rectangle, store  # noqa: E402
-from tests.library.support import needs_library  # noqa: E402
+import psxgpu
+from psxgpu.capture import BLOCKS_IN, BLOCKS_OUT, LIST, copy, drawing_area, fill, load, rectangle, store
+from tests.library.support import needs_library
 
 setUpModule = needs_library
 

@@ -1,17 +1,15 @@
 #!/usr/bin/env python3
-"""Tests of psxgpu.py: what it refuses, and the machine's ports: python3 tests/library/test_psxgpu.py"""
+"""Tests of psxgpu.py: what it refuses, and the machine's ports: python3 -m unittest tests.library.test_psxgpu"""
 import copy
 import os
-import sys
 import threading
 import unittest
 
 ROOT = os.path.dirname(os.path.dirname(os.path.dirname(os.path.abspath(__file__))))
-sys.path.insert(0, ROOT)
 
-import psxgpu  # noqa: E402
-from psxgpu.capture import fill, load, screen, store  # noqa: E402
-from tests.library.support import needs_library  # noqa: E402
+import psxgpu
+from psxgpu.capture import fill, load, screen, store
+from tests.library.support import needs_library
 
 setUpModule = needs_library
 

@@ -2,17 +2,12 @@
 """The library's own refusals, by its raw calls, as a program in C could make them: python3
 tests/library/test_refusals.py"""
 import ctypes
-import os
-import sys
 import unittest
 
-ROOT = os.path.dirname(os.path.dirname(os.path.dirname(os.path.abspath(__file__))))
-sys.path.insert(0, ROOT)
-
-from psxgpu.machine import Machine  # noqa: E402
-from psxgpu.machine.library import SIZE, WORD, Ended, Handle, RawNote, library  # noqa: E402
-from psxgpu.capture import Capture, fill, screen  # noqa: E402
-from tests.library.support import needs_library  # noqa: E402
+from psxgpu.machine import Machine
+from psxgpu.machine.library import SIZE, WORD, Ended, Handle, RawNote, library
+from psxgpu.capture import Capture, fill, screen
+from tests.library.support import needs_library
 
 setUpModule = needs_library
 
