@@ -1,5 +1,4 @@
-#!/usr/bin/env python3
-"""Words from a caller's buffer, and output into one: python3 -m unittest tests.library.test_buffers"""
+"""Words from a caller's buffer, and output into one"""
 import array
 import contextlib
 import ctypes
@@ -61,7 +60,3 @@ class Buffers(unittest.TestCase):
             self.assertEqual((str(caught.exception), room), ('psxgpu: no-room', b'x' * 100))
             for wrong in (bytes(1 << 20), memoryview(bytearray(1 << 21))[::2], 'text', 5):
                 self.assertRaises(TypeError, call, into=wrong)
-
-
-if __name__ == '__main__':
-    unittest.main()

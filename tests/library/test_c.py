@@ -1,5 +1,4 @@
-#!/usr/bin/env python3
-"""The library from C and C++, after `make lib`: PLAYER=psxgpu_tool python3 -m unittest tests.library.test_c
+"""The library from C and C++, after `make lib`
 
 example.c as C and as C++, with the static and with the shared library; events.c, which plays captures call by call,
 with sanitizers on its side, against the program; failing.c, in which each allocation fails in turn; counts.c, which
@@ -156,7 +155,3 @@ class Library(unittest.TestCase):
         done = subprocess.run([path, 'play'], stdin=folder, capture_output=True)
         os.close(folder)
         self.assertEqual((done.returncode, done.stderr), (5, b'events: standard input cannot be read\n'))
-
-
-if __name__ == '__main__':
-    unittest.main()

@@ -1,5 +1,4 @@
-#!/usr/bin/env python3
-"""The library passes the conformance suite in this process, after `make lib`: python3 -m unittest tests.library.test_conformance"""
+"""The library passes the conformance suite in this process, after `make lib`"""
 import unittest
 
 from psxgpu.commands.conform import every_test
@@ -19,7 +18,3 @@ class Suite(unittest.TestCase):
     def test_the_program_is_played_by_the_library(self):
         """`psxgpu conform psxgpu_tool` starts no process where the library is."""
         self.assertIsInstance(player_of('psxgpu_tool', appends=True), LibraryPlayer)
-
-
-if __name__ == '__main__':
-    unittest.main()

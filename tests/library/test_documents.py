@@ -1,5 +1,4 @@
-#!/usr/bin/env python3
-"""docs/LIBRARY.md and EMBEDDING.md do what they say, after `make lib`: python3 -m unittest tests.library.test_documents
+"""docs/LIBRARY.md and EMBEDDING.md do what they say, after `make lib`
 
 The Python lines are a doctest. A block after a name such as `triangle.c` is that file. Lines of a console block after
 `$ ` are run, beside these files, and what they write is compared. The browser's lines are for tests/web/test_web.py."""
@@ -50,7 +49,3 @@ class Page(unittest.TestCase):
                 os.symlink(os.path.join(ROOT, name), os.path.join(folder, name))
             for page in PAGES:
                 self.play(page, folder)
-
-
-if __name__ == '__main__':
-    unittest.main()

@@ -1,5 +1,4 @@
-#!/usr/bin/env python3
-"""Tests of psxgpu.py: main memory, DMA, snapshots and notes: python3 -m unittest tests.library.test_memory"""
+"""Tests of psxgpu.py: main memory, DMA, snapshots and notes"""
 import os
 import tempfile
 import unittest
@@ -111,7 +110,3 @@ class Notes(unittest.TestCase):
         self.assertEqual([(note.event, note.class_number, note.area) for note in found[:2]],
                          [(1, 7, None), (2, 7, None)])
         self.assertEqual(machine.gp0_notes([0x60000000]), [])
-
-
-if __name__ == '__main__':
-    unittest.main()

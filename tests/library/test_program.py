@@ -1,5 +1,4 @@
-#!/usr/bin/env python3
-"""The module against the program, over all examples: PLAYER=psxgpu_tool python3 -m unittest tests.library.test_program"""
+"""The module against the program, over all examples"""
 import os
 import sys
 import unittest
@@ -165,7 +164,3 @@ class AgainstTheProgram(unittest.TestCase):
             self.assertNotIsInstance(player_of(command), LibraryPlayer)
         done = player.run('vram', program.bytes_at(path))
         self.assertEqual(done, (0, program.play('vram', program.bytes_at(path))[1], b''))
-
-
-if __name__ == '__main__':
-    unittest.main()

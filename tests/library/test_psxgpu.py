@@ -1,5 +1,4 @@
-#!/usr/bin/env python3
-"""Tests of psxgpu.py: what it refuses, and the machine's ports: python3 -m unittest tests.library.test_psxgpu"""
+"""Tests of psxgpu.py: what it refuses, and the machine's ports"""
 import copy
 import os
 import threading
@@ -175,7 +174,3 @@ class Machines(unittest.TestCase):
         for thread in threads:
             thread.join()
         self.assertEqual({self.machine.cell(x, 5) for x in range(128)}, {31})
-
-
-if __name__ == '__main__':
-    unittest.main()

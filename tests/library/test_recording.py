@@ -1,5 +1,4 @@
-#!/usr/bin/env python3
-"""Captures and snapshots to iterate over, against the library's own modes: python3 -m unittest tests.library.test_recording"""
+"""Captures and snapshots to iterate over, against the library's own modes"""
 import os
 import unittest
 
@@ -101,7 +100,3 @@ class Recordings(unittest.TestCase):
     def test_what_a_record_says(self):
         record = next(psxgpu.Recording(Capture().gp0(1, 2).bytes()).records())
         self.assertEqual((record.kind, record.name, record.count, record.events), (GP0, 'Gp0', 2, 2))
-
-
-if __name__ == '__main__':
-    unittest.main()

@@ -1,4 +1,3 @@
-#!/usr/bin/env python3
 """The library's own refusals, by its raw calls, as a program in C could make them: python3
 tests/library/test_refusals.py"""
 import ctypes
@@ -149,7 +148,3 @@ class Refusals(unittest.TestCase):
         room = Room(len(whole))
         self.assertEqual(self.library.play(0, 0, capture, len(capture), room.at, len(whole), ended), 0)
         self.assertEqual(room.held(), whole)
-
-
-if __name__ == '__main__':
-    unittest.main()

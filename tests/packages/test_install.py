@@ -60,7 +60,3 @@ class Made(support.InFolder):
         self.assertEqual((done.stdout, done.stderr), ('psxgpu %s\n' % psxgpu.__version__, ''))
         self.make('uninstall')
         self.assertEqual(self.files(), [])
-
-
-if __name__ == '__main__':
-    unittest.main()

@@ -1,4 +1,3 @@
-#!/usr/bin/env python3
 """Tests of build_progress: python3 tests/proving/test_progress.py. A small `rt` stands in for the kit's."""
 import os
 import shutil
@@ -177,7 +176,3 @@ class Progress(unittest.TestCase):
         for words in (['0'], ['two'], ['--top', 'nobody']):
             with self.subTest(words=words):
                 self.run_it(*words, status=2, error=None)
-
-
-if __name__ == '__main__':
-    unittest.main()

@@ -1,5 +1,4 @@
-#!/usr/bin/env python3
-"""Tests of the plugin that draws: python3 -m unittest tests.recorder.test_draw. They need gcc and libpsxgpu.a, and neither an emulator
+"""Tests of the plugin that draws They need gcc and libpsxgpu.a, and neither an emulator
 nor a screen."""
 import os
 import subprocess

@@ -1,5 +1,4 @@
-#!/usr/bin/env python3
-"""Tests of how `record` ends: python3 -m unittest tests.recorder.test_endings. What stands for pcsxr is a line of shell."""
+"""Tests of how `record` ends What stands for pcsxr is a line of shell."""
 import glob
 import os
 import signal

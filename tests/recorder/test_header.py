@@ -1,5 +1,4 @@
-#!/usr/bin/env python3
-"""Tests of psxgpu_capture.h: python3 -m unittest tests.recorder.test_header. It is compiled as C99 and as C++17, with sanitizers, and
+"""Tests of psxgpu_capture.h It is compiled as C99 and as C++17, with sanitizers, and
 both write the same bytes. Where PLAYER names the built program, it plays what was written."""
 import errno
 import os

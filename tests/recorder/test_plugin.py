@@ -1,5 +1,4 @@
-#!/usr/bin/env python3
-"""Tests of the plugin that records: python3 -m unittest tests.recorder.test_plugin. They need gcc, and neither an emulator nor a
+"""Tests of the plugin that records They need gcc, and neither an emulator nor a
 screen."""
 import os
 import signal

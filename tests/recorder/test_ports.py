@@ -1,4 +1,3 @@
-#!/usr/bin/env python3
 """Tests of what the plugin follows of the ports, so that a recording may begin in the midst: python3
 tests/recorder/test_ports.py. They need gcc."""
 import itertools

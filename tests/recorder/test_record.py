@@ -1,5 +1,4 @@
-#!/usr/bin/env python3
-"""Tests of the command `record`, without an emulator: python3 -m unittest tests.recorder.test_record. What stands for pcsxr is a line
+"""Tests of the command `record`, without an emulator What stands for pcsxr is a line
 of shell."""
 import os
 import shutil

@@ -1,5 +1,4 @@
-#!/usr/bin/env python3
-"""systems/lower64.py on modules made by hand: python3 -m unittest tests.systems.test_lower64
+"""systems/lower64.py on modules made by hand
 
 Each row has the instructions of a function with two parameters of 64 bits, as hexadecimal bytes of the binary format
 (WebAssembly specification, chapter 5), what they become, and the types of the locals that are added. node says of each
@@ -99,7 +98,3 @@ class Lower64(unittest.TestCase):
         script = "console.log(JSON.stringify(%s.map(it => WebAssembly.validate(Buffer.from(it, 'hex')))))"
         done = subprocess.run(['node', '-e', script % json.dumps(modules)], stdout=subprocess.PIPE, check=True)
         self.assertEqual(dict(zip([row[0] for row in ROWS], json.loads(done.stdout))), {row[0]: True for row in ROWS})
-
-
-if __name__ == '__main__':
-    unittest.main()

@@ -1,5 +1,4 @@
-#!/usr/bin/env python3
-"""The self-test for Windows, selftest.cmd, by wine: python3 -m unittest tests.systems.test_selftest_cmd, after `make windows`.
+"""The self-test for Windows, selftest.cmd, by wine, after `make windows`.
 
 wine's own fc compares nothing, so one made here is beside the script."""
 import os
@@ -60,7 +59,3 @@ class Script(unittest.TestCase):
         status, text = self.run_script()
         self.assertEqual(status, 2, text)
         self.assertIn('psxgpu_tool.exe does not run: name the program, as in selftest.cmd psxgpu_tool.exe', text)
-
-
-if __name__ == '__main__':
-    unittest.main()

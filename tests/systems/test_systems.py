@@ -109,7 +109,3 @@ class Packages(support.InFolder):
     def test_missing_builds(self):
         with mock.patch.object(zips, 'ROOT', self.folder):
             self.assertRaisesRegex(common.ToolError, 'out/macos/psxgpu_tool: .* build it first', zips.content, 'macos')
-
-
-if __name__ == '__main__':
-    unittest.main()

@@ -1,4 +1,3 @@
-#!/usr/bin/env python3
 """What is Windows' own: names, streams, consoles. PLAYER=psxgpu_tool python3 -m unittest tests.systems.test_windows
 
 Each run of systems/players/windows (psxgpu_tool.exe by wine) is compared with the same run of this machine's program."""
@@ -45,7 +44,3 @@ class Windows(same_runs.Same):
                 found = run(WINDOWS, 'sums', data=self.capture, env=by)
                 self.assertEqual(found[0], status, found)
                 self.assertEqual(b'lacks instructions of x86-64-v2' in found[2], status != 0)
-
-
-if __name__ == '__main__':
-    unittest.main()

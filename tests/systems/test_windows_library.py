@@ -1,5 +1,4 @@
-#!/usr/bin/env python3
-"""psxgpu.dll, by wine: PLAYER=psxgpu_tool python3 -m unittest tests.systems.test_windows_library
+"""psxgpu.dll, by wine
 
 Programs in C, built by MinGW over the import library, and over one that is made of psxgpu.def as a user of another
 compiler makes his, play the examples in every mode as the program does."""
@@ -72,7 +71,3 @@ class Library(unittest.TestCase):
                         want = subprocess.run([NATIVE, *mode.split()], stdin=file, capture_output=True)
                         self.assertEqual(made.read(), want.stdout)
                     self.assertEqual(codes[k] != '%d 0' % k, want.returncode != 0)
-
-
-if __name__ == '__main__':
-    unittest.main()

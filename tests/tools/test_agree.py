@@ -43,7 +43,3 @@ class Agreement(support.InFolder):
     def test_classes(self):
         done = support.run_tool('agree', '--classes')
         self.assertEqual((done.returncode, done.stdout.splitlines()), (0, list(CLASSES)))
-
-
-if __name__ == '__main__':
-    unittest.main()

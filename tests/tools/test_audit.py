@@ -1,5 +1,4 @@
-#!/usr/bin/env python3
-"""Tests of psxgpu audit: python3 -m unittest tests.tools.test_audit. They need no player: small ones of fills, loads and
+"""Tests of psxgpu audit They need no player: small ones of fills, loads and
 stores stand below."""
 import contextlib
 import io
@@ -190,7 +189,3 @@ class Listings(unittest.TestCase):
                                  ('polygon', 0x21, 'triangle'), ('rectangle', 0x7D, 'rectangle textured raw'),
                                  ('line', 0x52, 'line shaded semi'), ('load', 0xA0, 'load')):
             self.assertEqual(audit.class_of(name, word << 24), want)
-
-
-if __name__ == '__main__':
-    unittest.main()

@@ -97,7 +97,3 @@ subprocess.run([%r, 'vram'], input=out.bytes(), check=True)
         status, lines, err = self.bisect(capture, '--ignore', 'sloped', players=players)
         self.assertEqual((status, err, lines[1]), (1, '', '14 rectangle 600000f2 60 60 61 61'))
         self.assertEqual(self.bisect(capture, '--ignore', 'line', '--ignore', 'rectangle', players=players)[0], 0)
-
-
-if __name__ == '__main__':
-    unittest.main()

@@ -71,7 +71,3 @@ class StartFrom(unittest.TestCase):
     def test_wrong_length(self):
         self.assertRaisesRegex(ValueError, 'dump', c.Capture(3).start_from, bytes(1 << 20))
         self.assertRaisesRegex(ValueError, 'setting', c.Capture().start_from, bytes(1 << 20), [1 << 24])
-
-
-if __name__ == '__main__':
-    unittest.main()

@@ -58,7 +58,3 @@ class Checked(support.InFolder):
         self.assertEqual(self.report(capture.bytes())[1][-1], 'slim leaves out: 3 of 8 events')
         self.assertEqual(self.report(support.example('turns'))[1][-1],
                          'slim leaves out: 0 of 20 events of the flat capture')
-
-
-if __name__ == '__main__':
-    unittest.main()

@@ -87,7 +87,3 @@ class Progress(support.InFolder):
                 'with progress.shown("it", is_quiet=True) as line:\n    time.sleep(2.4)\n')
         done = subprocess.run([sys.executable, '-c', text], capture_output=True, check=True)
         self.assertEqual((done.stdout, done.stderr), (b'', b''))
-
-
-if __name__ == '__main__':
-    unittest.main()

@@ -105,7 +105,3 @@ class Recordings(support.InFolder):
         self.assertEqual(self.compare(film(1), bytes(2048)), (
             2, 'psxgpu compare: ours and theirs: one is a recording\n'))
         self.assertEqual(self.compare(film(1), film(1), '--tolerance', '3')[0], 2)
-
-
-if __name__ == '__main__':
-    unittest.main()

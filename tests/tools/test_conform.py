@@ -108,7 +108,3 @@ class Conform(InFolder):
         status, out, _ = conform_of(Model(), '--list', '--only', 'fills')
         self.assertEqual(status, 0)
         self.assertTrue(out.startswith('fills/size-and-color  '))
-
-
-if __name__ == '__main__':
-    unittest.main()

@@ -108,7 +108,3 @@ class Stored(unittest.TestCase):
         fault = next(one for one in FAULTS if one.name == 'a fill\'s X is not rounded')
         self.assertEqual([test.full_name for test in finds(fault, fault.chapters)], ['fills/x-rounded-down'])
         self.assertTrue(Judge(Model()).able >= {'vram', 'play', 'shot', 'dma', 'turns', 'tall'})
-
-
-if __name__ == '__main__':
-    unittest.main()

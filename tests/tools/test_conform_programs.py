@@ -85,7 +85,3 @@ class Bare(InFolder):
                                     'suite-1.exe\tfills\t1\t1\tfills/size-and-color'])
         self.assertEqual(len(rows), 1 + len(HELD))
         self.assertFalse(os.path.exists(self.path('out/programs/suite-2.exe')))
-
-
-if __name__ == '__main__':
-    unittest.main()

@@ -103,7 +103,3 @@ class Orders(support.InFolder):
         capture = Capture().gp0([load(0, 0, 200, 100, cells)])
         plain, packed = (len(console.executable(capture.bytes(), packs=packs)) for packs in (False, True))
         self.assertLess(packed - 8192, (plain - 8192) / 3)
-
-
-if __name__ == '__main__':
-    unittest.main()

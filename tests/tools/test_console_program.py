@@ -124,7 +124,3 @@ class Bare(support.InFolder):
         capture = Capture().gp0(fill(0xFFFFFF, 0, 0, 16, 16), store(0, 0, 2, 1)).read()
         said, _ = self.run_on_it(self.write('a.capture', capture.bytes()), check=True)
         self.assertEqual(said[1], 'READS: 001 DIFFER')
-
-
-if __name__ == '__main__':
-    unittest.main()

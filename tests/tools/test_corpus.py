@@ -138,7 +138,3 @@ class Reduced(Corpus):
                          [(GP0, 3, [0x020000F8, 0, 0x00010001])])     # a width of 1 is 16
         self.assertEqual(self.read('corpus-report/a.png')[:4], b'\x89PNG')
         self.expect(2, '', '--reduce needs --reference', *check)
-
-
-if __name__ == '__main__':
-    unittest.main()

@@ -89,7 +89,3 @@ class Bad(Corpus):
         out, err = child.communicate(timeout=90)
         self.assertEqual((child.returncode, out), (2, ''))
         self.assertRegex(err, 'interrupted; 1 of 2 captures are kept in golden.part: run it again to go on')
-
-
-if __name__ == '__main__':
-    unittest.main()

@@ -54,7 +54,3 @@ class Packed(Corpus):
         self.write('in/a.capture.gz', gzip.compress(film().bytes()))
         self.expect(2, '', 'psxgpu corpus: in/a.capture.gz: 2 frames, too few for 9 parts', 'split',
                     'in/a.capture.gz', '--parts', '9', '--into', 'parts', '--player', './small')
-
-
-if __name__ == '__main__':
-    unittest.main()

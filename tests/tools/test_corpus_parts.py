@@ -58,7 +58,3 @@ class Parts(Corpus):
                     'parts', '--player', './small')
         self.expect(2, '', 'small: not a capture', 'split', 'small', '--parts', '2', '--into', 'parts', '--player',
                     './small')
-
-
-if __name__ == '__main__':
-    unittest.main()

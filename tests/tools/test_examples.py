@@ -56,7 +56,3 @@ class WithNumpy(support.InFolder):
         with self.image.open(self.path('film.gif')) as film:
             self.assertEqual((film.size, film.format), ((256, 64), 'GIF'))
             self.assertGreater(film.n_frames, 3)
-
-
-if __name__ == '__main__':
-    unittest.main()

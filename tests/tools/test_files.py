@@ -111,7 +111,3 @@ class Module(support.InFolder):
                 self.assertEqual(library.play.call_args.args[2:4], (capture, len(capture)))
             with self.assertRaisesRegex(ValueError, 'byte 51: the dump ends inside a packet'):
                 psxgpu.machine.play(self.write('cut', HAND_MADE[:51]))
-
-
-if __name__ == '__main__':
-    unittest.main()

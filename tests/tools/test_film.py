@@ -76,7 +76,3 @@ class Films(support.InFolder):
                                                       PYTHONPATH=support.TOP))
         self.assertEqual((done.returncode, done.stderr.count('\n')), (2, 1))
         self.assertIn('ffmpeg is not on the path', done.stderr)
-
-
-if __name__ == '__main__':
-    unittest.main()

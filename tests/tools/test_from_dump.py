@@ -171,7 +171,3 @@ class Command(support.InFolder):
             *others, last = done.stderr.splitlines()
             self.assertTrue(last.startswith('psxgpu from-dump: '), last)
             self.assertTrue(all('of the unknown type' in line for line in others), others)
-
-
-if __name__ == '__main__':
-    unittest.main()

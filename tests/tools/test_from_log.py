@@ -59,7 +59,3 @@ class Logs(support.InFolder):
 
     def test_many_words_are_one_record(self):
         self.assertEqual(len(c.records(made(['gp0 1'] * 1000))[1]), 1)
-
-
-if __name__ == '__main__':
-    unittest.main()

@@ -78,7 +78,3 @@ class Mended(support.InFolder):
             self.assertEqual((done.returncode, done.stderr.count('\n')), (2, 1), done)
             self.assertIn('psxgpu mend: ' + said, done.stderr)
             self.assertEqual({name: self.read(name) for name in os.listdir(self.folder)}, before)
-
-
-if __name__ == '__main__':
-    unittest.main()

@@ -256,7 +256,3 @@ class Writing(support.InFolder):
         os.chmod(path, 0o751)
         c.Capture().save(path)
         self.assertEqual((self.read('out'), stat.S_IMODE(os.stat(path).st_mode)), (b'PSXGPUC1' + bytes(4), 0o751))
-
-
-if __name__ == '__main__':
-    unittest.main()

@@ -139,7 +139,3 @@ class Listed(support.InFolder):
         self.assertEqual(done.stdout.splitlines()[0], '1 environment e3000000 -')
         self.assertEqual(done.stderr.splitlines(), ['psxgpu: list-loop at event 8 node 001100',
                                                     'last: 1 environment e3000000', 'last: 2 environment e403bd3f'])
-
-
-if __name__ == '__main__':
-    unittest.main()

@@ -92,7 +92,3 @@ class Parts(unittest.TestCase):
                 file.read(1)
         file = Pieces(iter((b'abc', b'de', b'')).__next__)
         self.assertEqual([file.read(4), file.read(4)], [b'abcd', b'e'])
-
-
-if __name__ == '__main__':
-    unittest.main()

@@ -130,7 +130,3 @@ class Compared(support.InFolder):
         image = read_png(self.read('s.png'))
         self.assertEqual((image.width, image.height, image.pixels), (3, 1, b'abcabd\xff\x20\x20'))
         self.assertEqual(read_png(self.read('d.png')).pixels, b'\xff\x20\x20')
-
-
-if __name__ == '__main__':
-    unittest.main()

@@ -71,7 +71,3 @@ class Wrong(support.InFolder):
         tall = CommandPlayer('n=$(wc -c); { printf %06d $n; cat /dev/zero; } | head -c 2097152')
         with self.assertRaisesRegex(ToolError, 'dumps of 1048576 and 2097152 bytes'):
             try_commands(SmallPlayer(), tall)
-
-
-if __name__ == '__main__':
-    unittest.main()

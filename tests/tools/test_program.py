@@ -1,4 +1,3 @@
-#!/usr/bin/env python3
 """What the program says to a person: files by name, hints at a terminal, and none where standard error is none."""
 import os
 import pty
@@ -179,7 +178,3 @@ class Hints(unittest.TestCase):
         os.close(ours)
         self.assertEqual((status, said),
                          (1, ['psxgpu: the output is binary: redirect it to a file or a program, as in > FILE']))
-
-
-if __name__ == '__main__':
-    unittest.main()

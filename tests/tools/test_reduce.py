@@ -173,7 +173,3 @@ class Beginnings(support.InFolder):
         """Reads whose words are not shown become reads."""
         path = self.write('a.capture', c.Capture(2).gp0([7]).skip(3).bytes())
         self.assertEqual(first_bytes(path, 'a', 3), c.Capture().gp0([7]).read(2).bytes())
-
-
-if __name__ == '__main__':
-    unittest.main()

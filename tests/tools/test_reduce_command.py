@@ -75,7 +75,3 @@ class Command(support.InFolder):
         status, _, error = self.reduce('%s vram' % support.PLAYER, '--ignore', 'lines')
         self.assertEqual(status, 2)
         self.assertIn("invalid choice: 'lines' (choose from", error)
-
-
-if __name__ == '__main__':
-    unittest.main()

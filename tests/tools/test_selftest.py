@@ -100,7 +100,3 @@ class Selftest(support.InFolder):
             done = self.script(path)
             self.assertEqual((done.returncode, done.stdout), (2, ''))
             self.assertIn('does not run: name the program', done.stderr)
-
-
-if __name__ == '__main__':
-    unittest.main()

@@ -117,7 +117,3 @@ sys.exit(data[:8] != b'PSXGPUC1' or subprocess.run([%r, 'vram'], input=data).ret
         players.narrow(95, 100)
         self.assertIs(players.prefixes, steps.prefixes)
         self.assertFalse(players.differ(97))
-
-
-if __name__ == '__main__':
-    unittest.main()

@@ -78,7 +78,3 @@ class Joined(support.InFolder):
     def test_too_few_events(self):
         done = support.run_tool('first', '20', self.write('one', c.Capture().stat().bytes()), self.path('out'))
         self.assertEqual((done.returncode, done.stderr), (2, 'psxgpu first: %s: it has 1 events\n' % self.path('one')))
-
-
-if __name__ == '__main__':
-    unittest.main()

@@ -160,7 +160,3 @@ class Commands(support.InFolder):
             'frame packets total covered mean most', '1 2 16 14 1.14 2', '2 1 16 16 1.00 1', '3 100 100 1 100.00 100',
             'frame 1, cells 16 0 31 2; by how often: 1: 12, 2: 2'])
         self.assertEqual(self.read('heat.png')[:4], b'\x89PNG')
-
-
-if __name__ == '__main__':
-    unittest.main()

@@ -170,7 +170,3 @@ class RoundTrip(support.InFolder):
             self.assertEqual((done.returncode, done.stderr.count('\n')), (2, 1), done.stderr)
             self.assertIn(why, done.stderr)
         self.assertEqual(self.read('a.psxgpu'), b'kept')
-
-
-if __name__ == '__main__':
-    unittest.main()

@@ -106,7 +106,3 @@ class ToExe(support.InFolder):
             large.gp0(load(0, 0, 512, 256, [r.getrandbits(16) for _ in range(1 << 17)]))
         self.assertIn('no memory for more than 1900544 bytes of packed',
                       self.refused(self.write('large', large.bytes())))
-
-
-if __name__ == '__main__':
-    unittest.main()

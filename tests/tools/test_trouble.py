@@ -94,7 +94,3 @@ class ToolError(support.InFolder):
                 done = support.run_tool(tool, '--there-is-none')
                 self.assertEqual((done.returncode, done.stdout), (2, ''))
                 self.assertNotIn('Traceback', done.stderr)
-
-
-if __name__ == '__main__':
-    unittest.main()

@@ -75,7 +75,3 @@ class Fields(unittest.TestCase):
         self.refused('screen height', c.screen, 0, 0, 320, 257)
         self.refused('display_mode', c.display_mode, 256)
         self.refused('dma_direction', c.dma_direction, 4)
-
-
-if __name__ == '__main__':
-    unittest.main()

@@ -1,4 +1,3 @@
-#!/usr/bin/env python3
 """Addresses of places, event.item, and the links with them: python3 -m tests.viewer.test_addresses, after `make web`."""
 import base64
 import unittest
@@ -150,7 +149,3 @@ class Links(Reader):
         self.link('#event=2947.99')
         self.page.until('document.getElementById("said").textContent.includes("has 87 items")')
         self.page.evaluate('probe.app.say("")')
-
-
-if __name__ == '__main__':
-    unittest.main()

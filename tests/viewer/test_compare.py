@@ -1,4 +1,3 @@
-#!/usr/bin/env python3
 """Comparing with a dump, and with a second recording side by side: python3 -m tests.viewer.test_compare, after `make web`."""
 import os
 import unittest
@@ -107,7 +106,3 @@ class Compare(Reader):
                                 ('a.xz', b'\xfd7zXZ\0' + bytes(60), 'unpack it first with xz -d')):
             self.page.choose('#dump', self.write(name, data))
             self.page.until('document.getElementById("compare").textContent.includes(%r)' % why)
-
-
-if __name__ == '__main__':
-    unittest.main()

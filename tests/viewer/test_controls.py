@@ -1,4 +1,3 @@
-#!/usr/bin/env python3
 """Menus, keys, wrong input, and what the page says: python3 -m tests.viewer.test_controls, after `make web`."""
 import base64
 import lzma
@@ -142,7 +141,3 @@ class Memory(Reader):
             self.page.load(files[k % len(files)])
         self.assertEqual(self.page.ask('moduleBytes'), before)
         self.page.evaluate('probe.app.say("")')
-
-
-if __name__ == '__main__':
-    unittest.main()

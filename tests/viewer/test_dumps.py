@@ -1,4 +1,3 @@
-#!/usr/bin/env python3
 """GPU dumps in the viewer, against the program: python3 -m tests.viewer.test_dumps, after `make web`."""
 import gzip
 import hashlib
@@ -64,7 +63,3 @@ class Dumps(unittest.TestCase):
         said = self.page.load(dump[:-2], 'cut.psxgpu')
         self.assertRegex(said, r'^cut.psxgpu: byte \d+ of the dump: the dump ends inside a packet, which begins at')
         self.assertIn('Open what is before it', self.page.evaluate('document.getElementById("said").textContent'))
-
-
-if __name__ == '__main__':
-    unittest.main()

@@ -1,4 +1,3 @@
-#!/usr/bin/env python3
 """The viewer in Firefox, if it is installed: python3 -m tests.viewer.test_firefox, after `make web`.
 
 What it shows is the program's, and stepping and the history do what they do in Chromium."""
@@ -68,7 +67,3 @@ class InFirefox(unittest.TestCase):
 
     def test_no_fault_was_told(self):
         self.assertNotIn('A fault', self.page.evaluate('document.getElementById("said").textContent'))
-
-
-if __name__ == '__main__':
-    unittest.main()

@@ -1,4 +1,3 @@
-#!/usr/bin/env python3
 """What is shown of whole frames and palettes: costs, wireframe, overdraw, the strip: python3 -m tests.viewer.test_frames, after
 `make web`."""
 import os
@@ -108,7 +107,3 @@ class Frames(Reader):
         self.load(two_buffers(1))
         self.page.evaluate('probe.app.seekRow([...probe.app.recording.rows.kind].indexOf(3))')
         self.assertIn('(20, 30)(20, 270)', self.page.text('#packet'))
-
-
-if __name__ == '__main__':
-    unittest.main()

@@ -1,4 +1,3 @@
-#!/usr/bin/env python3
 """The history of a cell, played for that cell alone where that is right: python3 -m tests.viewer.test_history, after `make web`.
 
 Captures at random read textures, palettes and copies from where they draw, so that some parts have to be played whole."""
@@ -119,7 +118,3 @@ class History(unittest.TestCase):
                 out.gp0(rectangle(0x101010 * k, 10 * k, 20, 60, 60, semi=True))
         played = self.check(out.bytes(), [(50, 40), (60, 630), (200, 700)], 10)
         self.assertEqual(played['whole'], 0)
-
-
-if __name__ == '__main__':
-    unittest.main()

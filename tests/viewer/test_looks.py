@@ -1,4 +1,3 @@
-#!/usr/bin/env python3
 """Contrast, bars that stay where they are, what is kept, and fingers: python3 -m tests.viewer.test_looks, after `make web`."""
 import unittest
 
@@ -156,7 +155,3 @@ class Phone(Reader):
         self.assertEqual(self.page.evaluate('scrollY'), 0)
         top = self.page.evaluate('document.getElementById("canvas").getBoundingClientRect().top')
         self.assertGreater(self.page.evaluate('innerHeight') - top, 300)
-
-
-if __name__ == '__main__':
-    unittest.main()

@@ -1,4 +1,3 @@
-#!/usr/bin/env python3
 """The modules of the viewer that open files, in Chromium: GPU dumps, plain and packed, whole and damaged.
 
     python3 -m tests.viewer.test_opening
@@ -137,7 +136,3 @@ class Opening(unittest.TestCase):
                 self.assertEqual(found['said'], 'this is a file packed by %s, which this browser cannot unpack: '
                                  'unpack it first with %s' % (name, program))
         self.assertEqual(self.drop(gzip.compress(HAND_MADE)[:-9])['said'], 'damaged: no whole gzip file')
-
-
-if __name__ == '__main__':
-    unittest.main()

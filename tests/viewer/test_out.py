@@ -1,4 +1,3 @@
-#!/usr/bin/env python3
 """What leaves the page, and what comes beside it: files that are saved, links, a second dump.
 
     python3 -m tests.viewer.test_out
@@ -82,7 +81,3 @@ class Out(Reader):
         load = self.page.evaluate('probe.app.recording.rows.kind.indexOf(5)')
         loaded = self.page.evaluate('probe.app.recording.wordsOf(%d)' % load)
         self.assertEqual(len(loaded), 3 + 16 * 64 // 2)
-
-
-if __name__ == '__main__':
-    unittest.main()

@@ -1,4 +1,3 @@
-#!/usr/bin/env python3
 """The page as a reader has it: keys, pointing, search, narrow windows, names for screen readers.
 
     python3 -m tests.viewer.test_page
@@ -108,7 +107,3 @@ class UsedByHand(Reader):
             self.assertLessEqual(self.page.evaluate('document.documentElement.scrollWidth - innerWidth'), 0, width)
             self.assertGreater(self.page.evaluate('document.getElementById("canvas").clientHeight'), 150, width)
         self.page.size(1400, 860)
-
-
-if __name__ == '__main__':
-    unittest.main()

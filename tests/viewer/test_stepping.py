@@ -1,4 +1,3 @@
-#!/usr/bin/env python3
 """Stepping through packets, and where a recording opens: python3 -m tests.viewer.test_stepping, after `make web`."""
 import unittest
 
@@ -168,7 +167,3 @@ class Drawn(Reader):
         self.assertGreater(told['memory'], 40)
         self.assertEqual(told['picture'], 0)
         self.assertEqual(told['same'], 0)
-
-
-if __name__ == '__main__':
-    unittest.main()

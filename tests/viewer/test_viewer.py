@@ -1,4 +1,3 @@
-#!/usr/bin/env python3
 """The viewer against the program, on the examples: python3 -m tests.viewer.test_viewer, after `make web`."""
 import gzip
 import hashlib
@@ -161,7 +160,3 @@ class Viewer(unittest.TestCase):
                          'a.capture: this is a file packed by zstd, which this browser cannot unpack: unpack it first '
                          'with zstd -d')
         self.assertIn('truncated', self.page.load(gzip.compress(data[:500])))
-
-
-if __name__ == '__main__':
-    unittest.main()

@@ -1,5 +1,4 @@
-#!/usr/bin/env python3
-"""The page of the conformance suite in Chromium and in Firefox, from the disk: python3 -m unittest tests.web.test_suite_page
+"""The page of the conformance suite in Chromium and in Firefox, from the disk
 
 `make web` comes first. All tests have to pass there, and a test whose expectation is changed has to fail."""
 import base64
@@ -78,7 +77,3 @@ class InChromium(Page, unittest.TestCase):
 @unittest.skipUnless(firefox(), 'no Firefox')
 class InFirefox(Page, unittest.TestCase):
     start = Firefox
-
-
-if __name__ == '__main__':
-    unittest.main()

@@ -1,5 +1,4 @@
-#!/usr/bin/env python3
-"""The page in Chromium and in Firefox, from the disk, against the program: PLAYER=psxgpu_tool python3 -m unittest tests.web.test_web
+"""The page in Chromium and in Firefox, from the disk, against the program
 
 `make web` comes first. The sums of what the module writes are compared with the program's, over all examples. In
 Chromium the module with addresses of 64 bits, from which it is made, has to write the same. The script lines of
@@ -132,7 +131,3 @@ class InChromium(Page, unittest.TestCase):
 @unittest.skipUnless(firefox(), 'no Firefox')
 class InFirefox(Page, unittest.TestCase):
     start = Firefox
-
-
-if __name__ == '__main__':
-    unittest.main()
