@@ -1,6 +1,6 @@
 // A reader of captures, which returns one event a call and keeps its stop.
 ghost use Rattle.std.specs.Prelude.{◌≡◌, ◌≤◌, ◌<◌, ◌+◌, ◌*◌, ◌%◌, ◌^◌, [], ◌∷◌, false, None, min};
-ghost use Rattle.std.specs.Prelude.{IfOk, IfErr, OnOk};
+ghost use Rattle.std.specs.Prelude.{IfOk, IfErr, IfSome, OnOk};
 ghost use Rattle.dev_io.specs.Device.{Rose};
 ghost use Rattle.gpu_capture.specs.Record.{IsEvent};
 ghost use Rattle.gpu_capture.specs.Reader.{StopsAt, Takes, CountsFaults, IsReadFault, IsStart, reader_input, work_left};
@@ -123,6 +123,7 @@ impl EventReader {
         ensures stop { self.old.stop ≡ None → IfErr result (StopsAt (reader_input self.old.progress (S.left source.old))
             (reader_input self.new.progress (S.left source.new))) }
         ensures keeps { KeepsStop self.old self.new (S.left source.old) (S.left source.new) result }
+        ensures untouched { IfSome self.old.stop (λ _. source.new ≡ source.old) }
         ensures cause { self.old.stop ≡ None → IfErr result (λ stop.
             IsReadFault stop → Rose (S.faults source.old) (S.faults source.new)) }
         ensures faults { S.faults source.old ≤ S.faults source.new }
