@@ -1,6 +1,6 @@
 // A reader of captures, which returns one event a call and keeps its stop.
 ghost use Rattle.std.specs.Prelude.{◌≡◌, ◌≤◌, ◌<◌, ◌+◌, ◌*◌, ◌%◌, ◌^◌, [], ◌∷◌, false, None, min};
-ghost use Rattle.std.specs.Prelude.{IfOk, IfErr, IfSome, OnOk};
+ghost use Rattle.std.specs.Prelude.{IfOk, IfErr, OnOk};
 ghost use Rattle.dev_io.specs.Device.{Rose};
 ghost use Rattle.gpu_capture.specs.Record.{IsEvent};
 ghost use Rattle.gpu_capture.specs.Reader.{StopsAt, Takes, CountsFaults, IsReadFault, IsStart, reader_input, work_left};
@@ -122,8 +122,7 @@ impl EventReader {
         ensures version { OnOk result (1 ≤ self.new.progress.version) }
         ensures stop { self.old.stop ≡ None → IfErr result (StopsAt (reader_input self.old.progress (S.left source.old))
             (reader_input self.new.progress (S.left source.new))) }
-        ensures keeps { KeepsStop self.old self.new (S.left source.old) (S.left source.new) result }
-        ensures untouched { IfSome self.old.stop (λ _. source.new ≡ source.old) }
+        ensures keeps { KeepsStop self.old self.new source.old source.new result }
         ensures cause { self.old.stop ≡ None → IfErr result (λ stop.
             IsReadFault stop → Rose (S.faults source.old) (S.faults source.new)) }
         ensures faults { S.faults source.old ≤ S.faults source.new }
@@ -159,7 +158,7 @@ impl EventReader {
         ensures goes_on { GoesOn self.old.progress self.new.progress }
         ensures stop { IfErr result (StopsAfter (reader_input self.old.progress (S.left source.old))
             (reader_input self.new.progress (S.left source.new)) block.new) }
-        ensures keeps { KeepsStop self.old self.new (S.left source.old) (S.left source.new) result }
+        ensures keeps { KeepsStop self.old self.new source.old source.new result }
         ensures faults { CountsFaults IsReadFault (S.faults source.old) (S.faults source.new) result }
     {
         self.stop = block.take(&mut self.progress, source, most).err();
