@@ -1,13 +1,12 @@
 // Buffered output is written before a read that may have to wait.
-ghost use Rattle.std.specs.Prelude.{◌≡◌, ◌≤◌, ◌<◌, ◌⊎◌, [], ◌∷◌, None, IfErr, IfOk, OnOk};
+ghost use Rattle.std.specs.Prelude.{◌≡◌, ◌≤◌, ◌⊎◌, [], ◌∷◌, None, IfErr, IfOk, OnOk};
 ghost use Rattle.dev_io.specs.Device.{Rose};
 ghost use Rattle.gathered_out.specs.Causes.{Causes, Fails};
 ghost use Rattle.gathered_out.specs.Puts.{BreaksWriting, holding};
 ghost use Rattle.gpu_capture.specs.Limit.{IsAtHand};
-ghost use Rattle.gpu_capture.specs.Reader.{IsReadFault, StopsAt, Takes, reader_input, work_left};
-ghost use Rattle.gpu_capture.specs.Record.{IsEvent};
+ghost use Rattle.gpu_capture.specs.Reader.{IsReadFault, StopsAt, Takes, reader_input};
 ghost use Rattle.gpu_capture.specs.State.{KeepsStop};
-ghost use Rattle.event_loop.specs.Pausing.{Pauses};
+ghost use Rattle.event_loop.specs.Pausing.{GivesEvent, Pauses};
 
 use dev_io::{Sink, Source};
 use gathered_out::OutputBuffer;
@@ -49,9 +48,7 @@ pub fn next_event<S: Source>(
     requires waits { (buffered.now ≡ []) ⊎ IsAtHand reader.old.progress (S.at_hand source.old) }
     ensures takes { IfOk result (λ event. Takes (reader_input reader.old.progress (S.left source.old))
         (reader_input reader.new.progress (S.left source.new)) (event ∷ [])) }
-    ensures event { IfOk result IsEvent }
-    ensures forward { OnOk result (work_left reader.new.progress < work_left reader.old.progress) }
-    ensures version { OnOk result (1 ≤ reader.new.progress.version) }
+    ensures gives { GivesEvent reader.old.progress reader.new.progress result }
     ensures stop { reader.old.stop ≡ None → IfErr result
         (StopsAt (reader_input reader.old.progress (S.left source.old))
         (reader_input reader.new.progress (S.left source.new))) }
