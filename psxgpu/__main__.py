@@ -3,15 +3,11 @@
 `psxgpu NAME --help` explains the arguments of a tool, `psxgpu --version` prints the version.
 Status: 0 equal, or done; 1 different, or something to look at; 2 an error, with one line on standard error.
 """
-import contextlib
-import importlib
 import os
 import signal
 import sys
 from types import ModuleType
 from typing import List, Optional
-
-from psxgpu import __version__, command
 
 TOOLS = ('corpus', 'packets', 'check', 'first', 'join', 'mend', 'from-log', 'from-dump', 'to-dump', 'to-exe', 'picture',
          'film', 'textures', 'heat', 'compare', 'bisect', 'agree', 'audit', 'reduce', 'conform', 'selftest')
@@ -19,6 +15,7 @@ TOOLS = ('corpus', 'packets', 'check', 'first', 'join', 'mend', 'from-log', 'fro
 
 def module_of(name: str) -> ModuleType:
     """Returns the module of a tool."""
+    import importlib
     return importlib.import_module('psxgpu.commands.' + name.replace('-', '_'))
 
 
@@ -32,28 +29,33 @@ def help_text() -> str:
 
 def main(words: Optional[List[str]] = None) -> int:
     """Runs a tool by its name and arguments. Returns the status."""
-    with contextlib.suppress(ValueError):                           # not in the main thread
-        signal.signal(signal.SIGTERM, signal.default_int_handler)   # a run that is ended removes what it began
+    if signal.getsignal(signal.SIGINT) is signal.default_int_handler:
+        signal.signal(signal.SIGINT, signal.SIG_DFL)    # no traceback while modules load
+    from psxgpu import command
     words = sys.argv[1:] if words is None else words
-    name = words[0] if words else '--help'
+    name, rest = (words[0], words[1:]) if words else ('--help', [])
+    if name == 'help' and rest[:1] and rest[0] in TOOLS:
+        name, rest = rest[0], ['--help']
     if name in TOOLS:
-        return command.main(module_of(name), words[1:], 'psxgpu ' + name)
+        return command.main(module_of(name), rest, 'psxgpu ' + name)
     return command.guarded('psxgpu', lambda: answer(name))
 
 
 def answer(name: str) -> None:
     """Prints the help or the version. Raises Trouble for another word."""
+    from psxgpu import __version__
+    from psxgpu.trouble import Trouble
     if name in ('-h', '--help', 'help'):
         print(help_text())
     elif name in ('--version', '-V', 'version'):
         print('psxgpu ' + __version__)
     elif os.path.exists(name):
-        raise command.Trouble('%s is a file: the name of a tool comes before it, as in psxgpu check %s' % (name, name))
+        raise Trouble('%s is a file: the name of a tool comes before it, as in psxgpu check %s' % (name, name))
     else:
-        import difflib  # pylint: disable=import-outside-toplevel    # it is large, and rarely wanted
+        import difflib  # it is large, and rarely wanted
         near = difflib.get_close_matches(name, TOOLS, 1)
-        raise command.Trouble('there is no tool %r%s: the tools are %s'
-                              % (name, ', perhaps %s' % near[0] if near else '', ', '.join(TOOLS)))
+        raise Trouble('there is no tool %r%s: the tools are %s'
+                      % (name, ', perhaps %s' % near[0] if near else '', ', '.join(TOOLS)))
 
 
 if __name__ == '__main__':

@@ -21,6 +21,7 @@ import argparse
 from psxgpu import progress
 from psxgpu.command import DIFFERENT, SAME, decimal, title
 from psxgpu.files import read_capture
+from psxgpu.output import Command, Source, tree
 from psxgpu.players.audit import audit
 from psxgpu.players.named import player_of
 from psxgpu.reduce.classes import reduce_classes
@@ -28,14 +29,14 @@ from psxgpu.reduce.classes import reduce_classes
 
 def arguments(parser: argparse.ArgumentParser) -> None:
     """Adds the arguments of this tool."""
-    parser.add_argument('capture', metavar='CAPTURE', help='a flat capture; - is standard input')
-    parser.add_argument('ours', metavar='OURS', help='the reference player: psxgpu_tool')
-    parser.add_argument('theirs', metavar='THEIRS', help='the player to test')
+    parser.add_argument('capture', type=Source, metavar='CAPTURE', help='a flat capture; - is standard input')
+    parser.add_argument('ours', type=Command, metavar='OURS', help='the reference player: psxgpu_tool')
+    parser.add_argument('theirs', type=Command, metavar='THEIRS', help='the player to test')
     parser.add_argument('--first', type=decimal(1, 1 << 62), default=1, metavar='EVENT',
                         help='the first event to compare (default: 1)')
     parser.add_argument('--last', type=decimal(1, 1 << 62), default=1 << 60, metavar='EVENT',
                         help='the last event to compare (default: that of the capture)')
-    parser.add_argument('--reduce', metavar='DIR',
+    parser.add_argument('--reduce', '-o', type=tree('psxgpu audit'), metavar='DIR',
                         help='write the smallest capture for each class that differs, and index.html, a table of them')
 
 

@@ -23,6 +23,7 @@ from psxgpu import progress
 from psxgpu.command import DIFFERENT, SAME, decimal, title
 from psxgpu.difference import compared
 from psxgpu.files import plain
+from psxgpu.output import Command, Source
 from psxgpu.packets.known import CLASSES, NAMES
 from psxgpu.players import player
 from psxgpu.players.beginning import beginning
@@ -35,9 +36,9 @@ from psxgpu.players.two_players import Players
 
 def arguments(parser: argparse.ArgumentParser) -> None:
     """Adds the arguments of this tool."""
-    parser.add_argument('capture', metavar='CAPTURE', help='a capture or a dump of a GPU; - is standard input')
-    parser.add_argument('ours', metavar='OURS', help='a shell command: it reads a capture and writes a dump')
-    parser.add_argument('theirs', metavar='THEIRS', help='another such command')
+    parser.add_argument('capture', type=Source, metavar='CAPTURE', help='a capture or a dump of a GPU; - is standard input')
+    parser.add_argument('ours', type=Command, metavar='OURS', help='a shell command: it reads a capture and writes a dump')
+    parser.add_argument('theirs', type=Command, metavar='THEIRS', help='another such command')
     parser.add_argument('--tolerance', type=decimal(0, 31), default=0, metavar='N',
                         help='cells whose channels are at most N steps apart count as equal')
     parser.add_argument('--ignore', action='append', choices=sorted(CLASSES) + list(NAMES), default=[], metavar='CLASS',

@@ -14,12 +14,13 @@ from psxgpu import progress
 from psxgpu.command import DIFFERENT, SAME, title
 from psxgpu.contents import report
 from psxgpu.files import plain
+from psxgpu.output import Source
 from psxgpu.players import player
 
 
 def arguments(parser: argparse.ArgumentParser) -> None:
     """Adds the arguments of this tool."""
-    parser.add_argument('capture', metavar='CAPTURE', help='a capture or a dump of a GPU; - is standard input')
+    parser.add_argument('capture', type=Source, metavar='CAPTURE', help='a capture or a dump of a GPU; - is standard input')
     player.argument(parser)
 
 

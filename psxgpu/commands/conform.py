@@ -23,13 +23,14 @@ from concurrent.futures import ThreadPoolExecutor
 from typing import List
 
 from psxgpu import progress
-from psxgpu.command import DIFFERENT, SAME, TROUBLE, Trouble, decimal, write_whole
+from psxgpu.command import DIFFERENT, SAME, TROUBLE, Trouble, decimal
 from psxgpu.conformance import folder, judging, reducing, report
 from psxgpu.conformance.chapters import CHAPTERS
 from psxgpu.conformance.judging import Judge, Verdict
 from psxgpu.conformance.page import page
 from psxgpu.conformance.released import SUITE, WITHDRAWN
 from psxgpu.conformance.suite import Test
+from psxgpu.output import Command, Content, Target, Text, tree, write_several
 from psxgpu.players import player
 from psxgpu.players.named import Player, expect_dump, player_of
 from psxgpu.stream import HEADS
@@ -37,13 +38,15 @@ from psxgpu.stream import HEADS
 
 def arguments(parser: argparse.ArgumentParser) -> None:
     """Adds the arguments."""
-    parser.add_argument('tested', nargs='?', metavar='PLAYER', help='a shell command: capture in, dump out')
-    parser.add_argument('--only', action='append', default=[], metavar='NAME', help='a chapter, or CHAPTER/TEST')
-    parser.add_argument('--page', metavar='FILE', help='write a page with pictures: theirs, ours, the difference')
-    parser.add_argument('--junit', metavar='FILE', help='write JUnit XML')
-    parser.add_argument('--json', metavar='FILE', help='write the verdicts')
-    parser.add_argument('--reduce', metavar='FOLDER', help='write the smallest capture that still shows each failure')
-    parser.add_argument('--write', metavar='FOLDER', help='write the tests as files, and what they expect')
+    parser.add_argument('tested', nargs='?', type=Command, metavar='PLAYER', help='a shell command: capture in, dump out')
+    parser.add_argument('--only', action='append', type=Text, default=[], metavar='NAME', help='a chapter, or CHAPTER/TEST')
+    parser.add_argument('--page', type=Target, metavar='FILE', help='write a page with pictures: theirs, ours, the difference')
+    parser.add_argument('--junit', type=Target, metavar='FILE', help='write JUnit XML')
+    parser.add_argument('--json', type=Target, metavar='FILE', help='write the verdicts')
+    parser.add_argument('--reduce', type=tree('psxgpu conform --reduce'), metavar='FOLDER',
+                        help='write the smallest capture that still shows each failure')
+    parser.add_argument('--write', '-o', type=tree('psxgpu conform --write'), metavar='FOLDER',
+                        help='write the tests as files, and what they expect')
     parser.add_argument('--exe', action='store_true', help='with --write: also programs for the console')
     parser.add_argument('--jobs', type=decimal(1, 1024), default=1, metavar='N',
                         help='runs of the player at a time (default: %(default)s)')
@@ -111,10 +114,9 @@ def test_player(words: argparse.Namespace, tests: List[Test]) -> int:
     if not words.quiet:
         print(''.join(line + '\n' for line in report.lines(verdicts)), end='')
     title = os.path.basename(words.tested)
-    for path, text in ((words.page, page(verdicts, title)), (words.junit, report.junit(verdicts, seconds)),
-                       (words.json, report.as_json(verdicts))):
-        if path:
-            write_whole(path, text.encode(), is_text=True)
+    write_several(Content(path, text.encode(errors='replace'), is_text=True) for path, text in (
+        (words.page, page(verdicts, title)), (words.junit, report.junit(verdicts, seconds)),
+        (words.json, report.as_json(verdicts))) if path)
     if words.reduce:
         print('\n'.join(reducing.reduce_all(verdicts, tested, words.reduce, words.player)))
     return status_of(verdicts, words.strict)

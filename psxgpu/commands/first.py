@@ -12,17 +12,19 @@ stays.
 import argparse
 from typing import Iterable, Iterator
 
-from psxgpu.command import Trouble, decimal, title, writing
+from psxgpu.command import Trouble, decimal, title
 from psxgpu.files import opened
+from psxgpu.output import Packed, Source, once
+from psxgpu.packing import packing
 from psxgpu.stream import HEADS, Record, Stream, count_of, encode, first_events, later_events
 
 
 def arguments(parser: argparse.ArgumentParser) -> None:
     """Adds the arguments of this tool."""
     parser.add_argument('events', type=decimal(0, 1 << 62), metavar='N', help='the number of events')
-    parser.add_argument('capture', nargs='?', default='-', metavar='CAPTURE', help='standard input if left out')
-    parser.add_argument('output', nargs='?', default='-', metavar='OUTPUT',
-                        help='the capture to write; standard output if left out')
+    parser.add_argument('capture', nargs='?', type=Source, default='-', metavar='CAPTURE',
+                        help='standard input if left out')
+    once(parser, 'output', Packed, 'the capture to write; standard output if left out', '-')
     parser.add_argument('--rest', action='store_true', help='write the events after the first N')
 
 
@@ -41,7 +43,7 @@ class Counted:
 def run(words: argparse.Namespace) -> None:
     """Writes the events."""
     name = title(words.capture)
-    with writing(words.output, [words.capture]) as target, opened(words.capture) as source:
+    with packing(words.output, [words.capture]) as target, opened(words.capture) as source:
         stream = Stream(source, name)
         counted = Counted(stream)
         target.write(HEADS[stream.version])

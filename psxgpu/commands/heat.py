@@ -24,6 +24,7 @@ from psxgpu.heat.counting import Counter, Frame
 from psxgpu.heat.picture import Counts, counts_of, picture
 from psxgpu.image import write_image
 from psxgpu.files import plain
+from psxgpu.output import Picture, Source, once
 from psxgpu.players import player
 from psxgpu.players.flat import flattened
 from psxgpu.players.listed import Walk
@@ -33,8 +34,8 @@ MARK, FLIP = 0x3F, 0x05     # opcodes of control words
 
 def arguments(parser: argparse.ArgumentParser) -> None:
     """Adds the arguments."""
-    parser.add_argument('capture', help='a capture; - is standard input')
-    parser.add_argument('picture', nargs='?', help='the PNG or PPM to write')
+    parser.add_argument('capture', type=Source, metavar='CAPTURE', help='a capture; - is standard input')
+    once(parser, 'picture', Picture, 'the PNG or PPM to write')
     parser.add_argument('--frame', type=decimal(1, 1 << 30), metavar='N', help='the number of a frame, from 1')
     parser.add_argument('--flips', action='store_true', help='frames end at each write of the display start')
     player.argument(parser)

@@ -15,16 +15,16 @@ import tempfile
 from typing import IO, Iterator, Tuple
 
 from psxgpu import progress
-from psxgpu.command import Trouble, pour, writing
+from psxgpu.command import Trouble, pour
 from psxgpu.mending import whole_of
+from psxgpu.output import Packed, Source, once, writing
 from psxgpu.packing import MOST_FIRST, PACKED, Damaged, packing, unpacked
 
 
 def arguments(parser: argparse.ArgumentParser) -> None:
     """Adds the arguments of this tool."""
-    parser.add_argument('capture', metavar='CAPTURE', help='the recording')
-    parser.add_argument('output', nargs='?', metavar='OUTPUT',
-                        help='the capture to write (default: the recording itself)')
+    parser.add_argument('capture', type=Source, metavar='CAPTURE', help='the recording')
+    once(parser, 'output', Packed, 'the capture to write (default: the recording itself)')
 
 
 class Beginning:

@@ -18,6 +18,7 @@ from typing import List
 from psxgpu import progress
 from psxgpu.command import SAME, TROUBLE, Trouble, decimal, reading, title
 from psxgpu.files import plain
+from psxgpu.output import Source
 from psxgpu.packets.control import class_name
 from psxgpu.packets.listing import NAMES, Entry, Listing, holds
 from psxgpu.players import player
@@ -28,7 +29,7 @@ TOGETHER = 256      # entries that are written at once
 
 def arguments(parser: argparse.ArgumentParser) -> None:
     """Adds the arguments of this tool."""
-    parser.add_argument('capture', metavar='CAPTURE', help='a capture or a dump of a GPU; - is standard input')
+    parser.add_argument('capture', type=Source, metavar='CAPTURE', help='a capture or a dump of a GPU; - is standard input')
     parser.add_argument('--name', action='append', choices=NAMES, metavar='NAME',
                         help='only these packets and events, some of: ' + ', '.join(NAMES))
     parser.add_argument('--cell', type=decimal(0, 1023), nargs=2, metavar=('X', 'Y'),

@@ -12,14 +12,14 @@ from typing import Sequence
 
 from psxgpu.command import Trouble, decimal
 from psxgpu.image import Image, about, load_file, read_picture, write_image
-from psxgpu.output import refuse_inputs
+from psxgpu.output import Picture, Source, once
 from psxgpu.vram import WIDTH, cells_of, palette_of, shown, texels
 
 
 def arguments(parser: argparse.ArgumentParser) -> None:
     """Adds the arguments of this tool."""
-    parser.add_argument('source', metavar='SOURCE', help='a dump, a PPM or a PNG; - is standard input')
-    parser.add_argument('target', metavar='PICTURE', help='the picture to write; - is standard output')
+    parser.add_argument('source', type=Source, metavar='SOURCE', help='a dump, a PPM or a PNG; - is standard input')
+    once(parser, 'picture', Picture, 'the picture to write; - is standard output')
     parser.add_argument('--bits', type=int, choices=(4, 8, 15), default=15, help='bits of a texel of the dump')
     parser.add_argument('--palette', type=decimal(0, 1023), nargs=2, metavar=('X', 'Y'),
                         help='the first cell of the palette')
@@ -41,7 +41,8 @@ def draw(cells: Sequence[int], words: argparse.Namespace) -> Image:
 
 def run(words: argparse.Namespace) -> None:
     """Writes the picture."""
-    refuse_inputs(words.target, [words.source])
+    if words.picture is None:
+        raise Trouble('name the picture: psxgpu picture %s picture.png' % words.source)
     data, is_picture = load_file(words.source)
     if is_picture:
         if words.box or words.palette or words.bits != 15:
@@ -49,4 +50,4 @@ def run(words: argparse.Namespace) -> None:
         image = about(words.source, read_picture, data)
     else:
         image = draw(about(words.source, cells_of, data), words)
-    write_image(words.target, image)
+    write_image(words.picture, image)

@@ -26,9 +26,10 @@ import sys
 import time
 
 from psxgpu import progress
-from psxgpu.command import DIFFERENT, SAME, decimal, title
+from psxgpu.command import DIFFERENT, SAME, decimal, parser_of, title
 from psxgpu.commands import to_exe
 from psxgpu.files import plain
+from psxgpu.output import Command, Source, stem, write_several
 from psxgpu.packets.known import CLASSES, NAMES
 from psxgpu.players import player
 from psxgpu.players.flat import flattened
@@ -36,15 +37,18 @@ from psxgpu.players.named import player_of
 from psxgpu.players.trial_run import try_players
 from psxgpu.reduce.faults import BreaksDown, DumpsDiffer, Fault, WordsDiffer
 from psxgpu.reduce.job import Job, Wanted
-from psxgpu.reduce.report import report_lines, write_all
+from psxgpu.reduce.report import files_of, report_lines
+
+ENDINGS = ('.capture', '.log', '.py', '.png', '.exe')
+PROOF = '.log', r'# .*, event \d+ of the flat capture: '     # the first line of NAME.log
 
 
 def arguments(parser: argparse.ArgumentParser) -> None:
     """Adds the arguments."""
-    parser.add_argument('capture', help='a capture; - is standard input')
-    parser.add_argument('ours', help='a shell command: capture in, dump out')
-    parser.add_argument('theirs', help='another such command')
-    parser.add_argument('-o', '--output', default='reduced', metavar='NAME',
+    parser.add_argument('capture', type=Source, metavar='CAPTURE', help='a capture; - is standard input')
+    parser.add_argument('ours', type=Command, metavar='OURS', help='a shell command: capture in, dump out')
+    parser.add_argument('theirs', type=Command, metavar='THEIRS', help='another such command')
+    parser.add_argument('-o', '--output', type=stem(ENDINGS, PROOF), default='reduced', metavar='NAME',
                         help='the beginning of the files\' names (default: %(default)s)')
     parser.add_argument('--event', type=decimal(1, 1 << 62), metavar='N', help='an event of the flat capture')
     parser.add_argument('--keep', action='store_true', help='the packet stays in its class')
@@ -72,9 +76,8 @@ def fault_of(words: argparse.Namespace) -> Fault:
 
 def write_program(capture: str, name: str) -> None:
     """Writes NAME.exe by `to-exe`."""
-    parser = argparse.ArgumentParser()
-    to_exe.arguments(parser)
-    to_exe.run(parser.parse_intermixed_args([capture, '-o', name, '--check']))
+    parser = parser_of(to_exe, 'psxgpu to-exe')
+    to_exe.run(parser.parsed(['-o', name, '--check', '--', capture]))
 
 
 def search(words: argparse.Namespace, path: str, name: str) -> int:
@@ -92,7 +95,7 @@ def search(words: argparse.Namespace, path: str, name: str) -> int:
             print('no difference')
             return SAME
         print('\n'.join(report_lines(found)))
-        write_all(found, words.output, ['ours: ' + words.ours, 'theirs: ' + words.theirs])
+        write_several(files_of(found, words.output, ['ours: ' + words.ours, 'theirs: ' + words.theirs]))
         if words.exe:
             write_program(words.output + '.capture', words.output + '.exe')
         if sys.stderr.isatty():

@@ -8,7 +8,8 @@ import tempfile
 from typing import IO, Iterator, List, Optional, Union
 
 from psxgpu import progress
-from psxgpu.command import Trouble, pour
+from psxgpu.command import BLOCK, Trouble
+from psxgpu.output import Command
 
 TOP = os.path.dirname(os.path.dirname(os.path.dirname(os.path.abspath(__file__))))
 BUILT = os.path.join(TOP, 'crates', 'psxgpu_tool', 'out', 'psxgpu_tool')
@@ -17,7 +18,7 @@ REFUSED = 2
 
 def argument(parser: argparse.ArgumentParser) -> None:
     """Adds the argument that names psxgpu_tool."""
-    parser.add_argument('--player', metavar='PROGRAM',
+    parser.add_argument('--player', type=Command, metavar='PROGRAM',
                         help='psxgpu_tool to use (default: that of $PLAYER, of the path, or of the checkout)')
 
 
@@ -91,7 +92,8 @@ def answer(player: str, words: List[str], path: str) -> bytes:
 
 def refusal(player: str, path: str) -> str:
     """Returns the line with which the program refuses a capture; empty if it plays it."""
-    with open(os.devnull, 'wb') as nothing, playing(player, ['play'], path) as run:
-        pour(run.out, nothing)
+    with playing(player, ['play'], path) as run:
+        while run.out.read(BLOCK):
+            pass
         status = run.end()
         return failure(status, run.said()) if status else ''
