@@ -19,7 +19,7 @@ from psxgpu.output import check, roles_in, silence, takes_standard_output, write
 from psxgpu.stopping import FIRST_STATUS, Stopped, stoppable
 from psxgpu.trouble import Trouble, named, reason_of, title
 
-__all__ = ['BLOCK', 'DIFFERENT', 'SAME', 'TROUBLE', 'Command', 'Readable', 'Trouble', 'decimal', 'guarded', 'main',
+__all__ = ['BLOCK', 'DIFFERENT', 'SAME', 'TROUBLE', 'Command', 'Readable', 'ToolError', 'decimal', 'guarded', 'main',
            'named', 'pour', 'read_whole', 'reading', 'reason_of', 'title', 'write_whole', 'writing']
 
 SAME, DIFFERENT, TROUBLE = 0, 1, 2
@@ -155,7 +155,7 @@ def reading(path: str) -> Iterator[BinaryIO]:
     """A file to read bytes from; `-` is standard input."""
     try:
         if path == '-' and sys.stdin is None:
-            raise Trouble('standard input: it is closed')
+            raise ToolError('standard input: it is closed')
         if path == '-':
             yield sys.stdin.buffer
         else:

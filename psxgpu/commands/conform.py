@@ -69,9 +69,9 @@ def chosen(names: List[str]) -> List[Test]:
     tests = every_test()
     for name in names:
         if name in WITHDRAWN:
-            raise Trouble('%s is withdrawn: %s' % (name, WITHDRAWN[name]))
+            raise ToolError('%s is withdrawn: %s' % (name, WITHDRAWN[name]))
         if not any(name in (test.chapter, test.full_name) for test in tests):
-            raise Trouble('%s: no chapter or test has this name: --list has them' % name)
+            raise ToolError('%s: no chapter or test has this name: --list has them' % name)
     return [test for test in tests if not names or test.chapter in names or test.full_name in names]
 
 
@@ -134,7 +134,7 @@ def run(words: argparse.Namespace) -> int:
         for line in folder.write(tests, words.write, folder.found_program(words.player), words.exe):
             print('%s: %s' % (words.write, line), file=sys.stderr)
     elif words.tested is None:
-        raise Trouble('name a player: `psxgpu conform --help` explains the arguments')
+        raise ToolError('name a player: `psxgpu conform --help` explains the arguments')
     else:
         return test_player(words, tests)
     return SAME

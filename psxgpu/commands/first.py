@@ -51,4 +51,4 @@ def run(words: argparse.Namespace) -> None:
             target.write(encode(*record))
         target.write(bytes(4))
         if counted.events < words.events:
-            raise Trouble('%s: it has %d events' % (name, counted.events))
+            raise ToolError('%s: it has %d events' % (name, counted.events))

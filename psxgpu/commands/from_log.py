@@ -49,7 +49,7 @@ def run(words: argparse.Namespace) -> None:
             try:
                 log = from_log(lines_of(source, name), records)
             except Bad as bad:
-                raise Trouble('%s: %s' % (name, bad)) from bad
+                raise ToolError('%s: %s' % (name, bad)) from bad
         records.seek(0)
         with packing(words.capture, log.inputs) as target:
             target.write(HEADS[log.needs])

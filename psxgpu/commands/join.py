@@ -28,13 +28,13 @@ def arguments(parser: argparse.ArgumentParser) -> None:
 
 
 def version_of(paths: Iterable[str]) -> int:
-    """Returns the version of the whole. Raises Trouble if the captures cannot be joined."""
+    """Returns the version of the whole. Raises ToolError if the captures cannot be joined."""
     versions: Dict[int, str] = {}
     for path in paths:
         with opened(path) as file:
             versions[Stream(file, title(path)).version] = path
     if 3 in versions and len(versions) > 1:
-        raise Trouble('%s and %s: 1024 and 512 rows' % (versions[3], versions[min(versions)]))
+        raise ToolError('%s and %s: 1024 and 512 rows' % (versions[3], versions[min(versions)]))
     return max(versions)
 
 
@@ -56,4 +56,4 @@ def run(words: argparse.Namespace) -> None:
                     target.write(data)
         target.write(bytes(4))
         if size > MOST_BYTES:
-            raise Trouble('the whole has %d bytes: a player refuses more than 2^30' % size)
+            raise ToolError('the whole has %d bytes: a player refuses more than 2^30' % size)

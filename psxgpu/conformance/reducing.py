@@ -4,7 +4,7 @@ from __future__ import annotations
 import tempfile
 from typing import List, Optional
 
-from psxgpu.command import Trouble
+from psxgpu.command import ToolError
 from psxgpu.conformance.answers import SECONDS
 from psxgpu.conformance.judging import DIFFERS, FAILED, Verdict
 from psxgpu.output import Folder, Tree, folder

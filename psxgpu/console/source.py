@@ -17,7 +17,7 @@ class Source(NamedTuple):
     name: str
 
     def version(self) -> int:
-        """Returns the version of the capture. Trouble if it is none."""
+        """Returns the version of the capture. ToolError if it is none."""
         with open(self.path, 'rb') as file:
             return Stream(file, self.name).version
 
@@ -26,7 +26,7 @@ class Source(NamedTuple):
         with open(self.path, 'rb') as source, writing(path) as target:
             done = subprocess.run([self.tool, *words], stdin=source, stdout=target, stderr=subprocess.PIPE)
         if done.returncode:
-            raise Trouble('%s: %s' % (self.name, player.failure(done.returncode, done.stderr)))
+            raise ToolError('%s: %s' % (self.name, player.failure(done.returncode, done.stderr)))
 
     def answer(self, *words: str) -> bytes:
         """Returns what a command of psxgpu_tool writes."""

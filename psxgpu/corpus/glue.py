@@ -7,7 +7,7 @@ picture at its end is that frame once more. If that frame shows no picture, ther
 import os
 from typing import BinaryIO, List, Sequence, Tuple
 
-from psxgpu.command import Trouble, reading
+from psxgpu.command import ToolError, reading
 from psxgpu.corpus.scan import copy_bytes
 
 TAIL = 1 << 12
@@ -72,12 +72,12 @@ ENDS = {'play': end_of_words, 'sums': end_of_sums, 'frames': end_of_frames, 'lis
 def glue(word: str, paths: Sequence[str], out: BinaryIO) -> None:
     """Writes the whole of what a player wrote for each part. `word`: its command."""
     if word not in ENDS:
-        raise Trouble('glue %s: one of %s' % (word, ' '.join(ENDS)))
+        raise ToolError('glue %s: one of %s' % (word, ' '.join(ENDS)))
     for k, path in enumerate(paths, 1):
         with reading(path) as file:
             try:
                 end = ENDS[word](file) if k < len(paths) else file.seek(0, os.SEEK_END)
             except (ValueError, IndexError) as error:
-                raise Trouble('%s: not what `%s` writes: %s' % (path, word, error)) from error
+                raise ToolError('%s: not what `%s` writes: %s' % (path, word, error)) from error
             file.seek(0)
             copy_bytes(file, out, end)

@@ -63,7 +63,7 @@ class Journal:
         if elsewhere:
             kept = read_sums(elsewhere)
             if (kept.player, kept.gives) != (self.sums.player, self.sums.gives):
-                raise Trouble('%s: played by %s for %s; here is %s for %s'
+                raise ToolError('%s: played by %s for %s; here is %s for %s'
                               % (elsewhere, kept.player, ' '.join(kept.gives), self.sums.player,
                                  ' '.join(player.gives)))
             self.keep(kept, captures)
@@ -107,7 +107,7 @@ def play_all(player: Player, captures: Sequence[Capture], jobs: int) -> Generato
                 it.cancel()
 
 
-class Nothing(Trouble):
+class Nothing(ToolError):
     """The player played no capture."""
 
 

@@ -50,8 +50,8 @@ def reduced_entry(kind: str, row: Row, flat: str, name: str, players: Tuple[Play
     try:
         with Job(*players, wanted) as job:
             found = job.result(flat, name)
-    except Trouble as trouble:
-        return Entry(kind, row, [str(trouble)], [])
+    except ToolError as error:
+        return Entry(kind, row, [str(error)], [])
     if found is None:
         return Entry(kind, row, ['not shown by dumps'], [])
     notes = ['ours: ' + players[0].text, 'theirs: ' + players[1].text]
