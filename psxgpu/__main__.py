@@ -42,19 +42,19 @@ def main(words: Optional[List[str]] = None) -> int:
 
 
 def answer(name: str) -> None:
-    """Prints the help or the version. Raises Trouble for another word."""
+    """Prints the help or the version. Raises ToolError for another word."""
     from psxgpu import __version__
-    from psxgpu.trouble import Trouble
+    from psxgpu.errors import ToolError
     if name in ('-h', '--help', 'help'):
         print(help_text())
     elif name in ('--version', '-V', 'version'):
         print('psxgpu ' + __version__)
     elif os.path.exists(name):
-        raise Trouble('%s is a file: the name of a tool comes before it, as in psxgpu check %s' % (name, name))
+        raise ToolError('%s is a file: the name of a tool comes before it, as in psxgpu check %s' % (name, name))
     else:
         import difflib  # it is large, and rarely wanted
         near = difflib.get_close_matches(name, TOOLS, 1)
-        raise Trouble('there is no tool %r%s: the tools are %s'
+        raise ToolError('there is no tool %r%s: the tools are %s'
                       % (name, ', perhaps %s' % near[0] if near else '', ', '.join(TOOLS)))
 
 

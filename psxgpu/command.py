@@ -17,7 +17,7 @@ from typing import IO, Any, BinaryIO, Callable, ContextManager, Iterator, NoRetu
 from psxgpu import progress
 from psxgpu.output import check, roles_in, silence, takes_standard_output, write_whole, writing
 from psxgpu.stopping import FIRST_STATUS, Stopped, stoppable
-from psxgpu.trouble import Trouble, named, reason_of, title
+from psxgpu.errors import ToolError, named, reason_of, title
 
 __all__ = ['BLOCK', 'DIFFERENT', 'SAME', 'TROUBLE', 'Command', 'Readable', 'ToolError', 'decimal', 'guarded', 'main',
            'named', 'pour', 'read_whole', 'reading', 'reason_of', 'title', 'write_whole', 'writing']
@@ -60,8 +60,8 @@ class Parser(argparse.ArgumentParser):
     """A parser whose refusal is one line: what is wrong, and where the arguments are explained."""
 
     def error(self, message: str) -> NoReturn:
-        """Raises Trouble."""
-        raise Trouble('%s: `%s --help` explains the arguments' % (message.replace(LITERAL, ''), self.prog))
+        """Raises ToolError."""
+        raise ToolError('%s: `%s --help` explains the arguments' % (message.replace(LITERAL, ''), self.prog))
 
     def _get_value(self, action: argparse.Action, text: str) -> Any:
         """Returns the value of an argument."""
@@ -124,8 +124,8 @@ def guarded(name: str, work: Callable[[], Optional[int]]) -> int:
             if sys.stdout is not None:
                 sys.stdout.flush()
         return status
-    except Trouble as trouble:
-        reason = str(trouble)
+    except ToolError as error:
+        reason = str(error)
     except BrokenPipeError:
         pass
     except OSError as error:

@@ -12,7 +12,7 @@ Status: 0 all are equal, 1 some differ, 2 an error, also if a player wrote no du
 """
 import argparse
 
-from psxgpu.command import DIFFERENT, SAME, Trouble, decimal
+from psxgpu.command import DIFFERENT, SAME, ToolError, decimal
 from psxgpu.output import Command, Text
 from psxgpu.packets.generated import CLASSES
 from psxgpu.players.agreement import Score, compare_class

@@ -23,7 +23,7 @@ from concurrent.futures import ThreadPoolExecutor
 from typing import List
 
 from psxgpu import progress
-from psxgpu.command import DIFFERENT, SAME, TROUBLE, Trouble, decimal
+from psxgpu.command import DIFFERENT, SAME, TROUBLE, ToolError, decimal
 from psxgpu.conformance import folder, judging, reducing, report
 from psxgpu.conformance.chapters import CHAPTERS
 from psxgpu.conformance.judging import Judge, Verdict

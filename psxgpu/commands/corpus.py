@@ -22,7 +22,7 @@ import shlex
 import sys
 from typing import Dict, List
 
-from psxgpu.command import DIFFERENT, SAME, Trouble, decimal
+from psxgpu.command import DIFFERENT, SAME, ToolError, decimal
 from psxgpu.corpus import report
 from psxgpu.corpus.captures import NAMES, REPORT, Capture, captures_of
 from psxgpu.corpus.findings import Finding, compare_sums

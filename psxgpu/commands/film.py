@@ -33,7 +33,7 @@ def arguments(parser: argparse.ArgumentParser) -> None:
 def run(words: argparse.Namespace) -> None:
     """Writes the film."""
     if words.film is None:
-        raise Trouble('name the film: psxgpu film %s film.mp4' % words.capture)
+        raise ToolError('name the film: psxgpu film %s film.mp4' % words.capture)
     program, ffmpeg, name = player.find(words.player), find_ffmpeg(words.ffmpeg), title(words.capture)
     with plain(words.capture) as path, written_by_name(words.film, [words.capture]) as target:
         try:

@@ -12,7 +12,7 @@ stays.
 import argparse
 from typing import Iterable, Iterator
 
-from psxgpu.command import Trouble, decimal, title
+from psxgpu.command import ToolError, decimal, title
 from psxgpu.files import opened
 from psxgpu.output import Packed, Source, once
 from psxgpu.packing import packing

@@ -24,7 +24,7 @@ from psxgpu.dumps.reader import Dump
 from psxgpu.dumps.translation import END, Translation
 from psxgpu.output import Packed, Source, Target, once, writing
 from psxgpu.packing import Damaged, packing, unpacked
-from psxgpu.trouble import title
+from psxgpu.errors import title
 
 
 def arguments(parser: argparse.ArgumentParser) -> None:

@@ -27,7 +27,7 @@ error.
 import argparse
 import tempfile
 
-from psxgpu.command import Trouble, pour, reading, title
+from psxgpu.command import ToolError, pour, reading, title
 from psxgpu.log import Bad, from_log, lines_of
 from psxgpu.output import Packed, Source, once
 from psxgpu.packing import packing

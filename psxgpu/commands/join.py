@@ -11,7 +11,7 @@ import argparse
 import os
 from typing import Dict, Iterable
 
-from psxgpu.command import Trouble, title
+from psxgpu.command import ToolError, title
 from psxgpu.files import is_plain, opened
 from psxgpu.output import Grown, Source
 from psxgpu.packing import packing
@@ -41,10 +41,10 @@ def version_of(paths: Iterable[str]) -> int:
 def run(words: argparse.Namespace) -> None:
     """Writes the whole."""
     if '-' in words.captures:
-        raise Trouble('standard input: name files, since each is read twice')
+        raise ToolError('standard input: name files, since each is read twice')
     for path in words.captures:
         if os.path.exists(words.output) and os.path.samefile(path, words.output) and not is_plain(path):
-            raise Trouble('%s is packed or a dump: name another output' % path)
+            raise ToolError('%s is packed or a dump: name another output' % path)
     version, size = version_of(words.captures), 12
     with packing(words.output) as target:
         target.write(HEADS[version])

@@ -15,7 +15,7 @@ import tempfile
 from typing import IO, Iterator, Tuple
 
 from psxgpu import progress
-from psxgpu.command import Trouble, pour
+from psxgpu.command import ToolError, pour
 from psxgpu.mending import whole_of
 from psxgpu.output import Packed, Source, once, writing
 from psxgpu.packing import MOST_FIRST, PACKED, Damaged, packing, unpacked

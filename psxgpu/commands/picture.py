@@ -42,7 +42,7 @@ def draw(cells: Sequence[int], words: argparse.Namespace) -> Image:
 def run(words: argparse.Namespace) -> None:
     """Writes the picture."""
     if words.picture is None:
-        raise Trouble('name the picture: psxgpu picture %s picture.png' % words.source)
+        raise ToolError('name the picture: psxgpu picture %s picture.png' % words.source)
     data, is_picture = load_file(words.source)
     if is_picture:
         if words.box or words.palette or words.bits != 15:

@@ -34,7 +34,7 @@ def reduce_one(verdict: Verdict, ours: Player, theirs: Player, out: Folder, prog
 
 
 def reduce_all(verdicts: List[Verdict], theirs: Player, path: Tree, given: Optional[str]) -> List[str]:
-    """Reduces each failure whose cells or words differ. Returns a line for each. Raises Trouble without psxgpu_tool."""
+    """Reduces each failure whose cells or words differ. Returns a line for each. Raises ToolError without psxgpu_tool."""
     program = player.find(given)
     ours = player_of(program, appends=True)
     lines = []
@@ -44,7 +44,7 @@ def reduce_all(verdicts: List[Verdict], theirs: Player, path: Tree, given: Optio
                 continue
             try:
                 line = reduce_one(verdict, ours, theirs, out, program)
-            except Trouble as error:
+            except ToolError as error:
                 line = '%s: not reduced: %s' % (verdict.test.full_name, error)
             lines.append(line or '%s: psxgpu_tool does the same' % verdict.test.full_name)
     return lines

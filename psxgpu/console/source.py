@@ -4,7 +4,7 @@ import subprocess
 import tempfile
 from typing import NamedTuple
 
-from psxgpu.command import Trouble
+from psxgpu.command import ToolError
 from psxgpu.output import writing
 from psxgpu.players import player
 from psxgpu.stream import Stream
@@ -22,7 +22,7 @@ class Source(NamedTuple):
             return Stream(file, self.name).version
 
     def play(self, path: str, *words: str) -> None:
-        """Writes into a file what a command of psxgpu_tool writes. Trouble if it refuses the capture."""
+        """Writes into a file what a command of psxgpu_tool writes. ToolError if it refuses the capture."""
         with open(self.path, 'rb') as source, writing(path) as target:
             done = subprocess.run([self.tool, *words], stdin=source, stdout=target, stderr=subprocess.PIPE)
         if done.returncode:

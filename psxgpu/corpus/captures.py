@@ -4,7 +4,7 @@ import os
 from dataclasses import dataclass
 from typing import Dict, Iterable, Iterator, List, Sequence, Tuple
 
-from psxgpu.command import Trouble
+from psxgpu.command import ToolError
 from psxgpu.output.folders import is_made_by
 from psxgpu.packing import ENDINGS
 

@@ -6,7 +6,7 @@ import sys
 import time
 from typing import IO, Dict, Generator, Optional, Sequence, Set
 
-from psxgpu.command import Trouble, reason_of
+from psxgpu.command import ToolError, reason_of
 from psxgpu.corpus.captures import Capture
 from psxgpu.corpus.sums import Row, Sums, as_bytes, read_sums, write_text
 from psxgpu.corpus.play import Player, size_and_sum
@@ -142,5 +142,5 @@ def play_into(path: str, player: Player, captures: Sequence[Capture], jobs: int,
     except (OSError, Stopped) as error:
         text = '%s; %d of %d captures are kept in %s: run it again to continue' % (
             reason_of(error) if isinstance(error, OSError) else error, len(rows), len(captures), journal.path)
-        raise (Trouble(text) if isinstance(error, OSError) else Stopped(error.number, text)) from error
+        raise (ToolError(text) if isinstance(error, OSError) else Stopped(error.number, text)) from error
     return journal.sums

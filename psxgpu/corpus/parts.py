@@ -2,7 +2,7 @@
 import tempfile
 from typing import IO, List, Sequence, Tuple
 
-from psxgpu.command import Trouble, pour
+from psxgpu.command import ToolError, pour
 from psxgpu.corpus.play import Player
 from psxgpu.corpus.scan import FLIP, copy_first, frames
 from psxgpu.files import plain
@@ -34,7 +34,7 @@ def write_part(path: str, name: str, events: Tuple[int, int], out: IO[bytes], pl
             first.seek(0)
             with player.run('cut %d' % before, first) as run:
                 if run.end != 'played':
-                    raise Trouble('%s: cut %d: %s' % (name, before, run.end))
+                    raise ToolError('%s: cut %d: %s' % (name, before, run.end))
                 pour(run.out, out)
 
 
@@ -44,7 +44,7 @@ def split(path: str, parts: int, target: Tree, player: Player, opcode: int = FLI
         try:
             ends = places(whole, parts, opcode)
         except ValueError as error:
-            raise Trouble('%s: %s' % (path, error)) from error
+            raise ToolError('%s: %s' % (path, error)) from error
         names = ['%03d.%s' % (k, 'snapshot' if k > 1 else 'capture') for k in range(1, len(ends) + 1)]
         with folder(target) as made:
             for name, before, last in zip(names, [0] + ends, ends):

@@ -61,7 +61,7 @@ def straight(descriptor: int, title: str, is_text: bool) -> Iterator[BinaryIO]:
     """Writes to a device, a pipe or a stream, and closes `descriptor`."""
     with Written(descriptor, title) as raw:
         if raw.isatty() and not is_text:
-            raise Trouble(BINARY)
+            raise ToolError(BINARY)
         with io.BufferedWriter(raw) as file:
             yield cast(BinaryIO, file)
 

@@ -16,7 +16,7 @@ import shutil
 from typing import BinaryIO, Iterable, Iterator, List, Set
 
 from psxgpu.output.files import write_whole
-from psxgpu.trouble import Trouble, named
+from psxgpu.errors import ToolError, named
 
 MARK = '.psxgpu-output'
 
@@ -34,7 +34,7 @@ def is_made_by(path: str, maker: str) -> bool:
 
 
 def refuse_foreign(path: str, maker: str) -> None:
-    """Raises Trouble if a folder has files and was not written by `maker`, OSError if it is not a folder."""
+    """Raises ToolError if a folder has files and was not written by `maker`, OSError if it is not a folder."""
     if not path:
         raise OSError(errno.ENOENT, os.strerror(errno.ENOENT), path)
     if not os.path.lexists(path):
@@ -42,7 +42,7 @@ def refuse_foreign(path: str, maker: str) -> None:
     if not os.path.isdir(path):
         raise OSError(errno.ENOTDIR, os.strerror(errno.ENOTDIR), path)
     if os.listdir(path) and not is_made_by(path, maker):
-        raise Trouble('%s: the folder has files that %s did not write: name a new or an empty folder' % (path, maker))
+        raise ToolError('%s: the folder has files that %s did not write: name a new or an empty folder' % (path, maker))
 
 
 class Folder:
@@ -79,11 +79,11 @@ class Folder:
         return os.path.join(self.path, names[0])
 
     def mark(self, names: Iterable[str]) -> None:
-        """Writes the mark with more names. Raises Trouble if a file of such a name is there that the tool did not write."""
+        """Writes the mark with more names. Raises ToolError if a file of such a name is there that the tool did not write."""
         old = set(mark_of(self.path)[1:])
         for name in names:
             if name not in old and os.path.lexists(os.path.join(self.path, name)):
-                raise Trouble('%s is there, and %s did not write it: name another folder'
+                raise ToolError('%s is there, and %s did not write it: name another folder'
                               % (os.path.join(self.path, name), self.maker))
         text = '\n'.join([self.maker, *sorted(old | set(names))]) + '\n'
         write_whole(os.path.join(self.path, MARK), os.fsencode(text), is_text=True)

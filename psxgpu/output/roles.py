@@ -16,7 +16,7 @@ from typing import Callable, Iterable, Iterator, List, Optional, Sequence, Tuple
 
 from psxgpu.output.files import BINARY, status_of, stream_of
 from psxgpu.output.folders import refuse_foreign
-from psxgpu.trouble import Trouble, title
+from psxgpu.errors import ToolError, title
 
 STANDARD_OUTPUT = 1
 PACKERS = ('.gz', '.xz', '.zst')
@@ -204,22 +204,22 @@ def refuse_place(path: str) -> None:
 
 
 def refuse_terminal(path: str) -> None:
-    """Raises Trouble if bytes that are not text would go to a terminal."""
+    """Raises ToolError if bytes that are not text would go to a terminal."""
     stream = stream_of(path)
     with contextlib.suppress(OSError):
         if isinstance(path, (Packed, Picture)) and stream is not None and os.isatty(stream):
-            raise Trouble(BINARY)
+            raise ToolError(BINARY)
 
 
 def refuse_stem(name: Stem) -> None:
-    """Raises Trouble if files of these names are there that were not written by the same tool."""
+    """Raises ToolError if files of these names are there that were not written by the same tool."""
     there = [path for path in name.paths() if os.path.lexists(path)]
     if not there:
         return
     with contextlib.suppress(OSError), open(name + name.proof[0], 'rb') as file:
         if re.match(name.proof[1], file.readline().decode(errors='replace')):
             return
-    raise Trouble('%s is there, and this tool did not write it: name another output with -o' % there[0])
+    raise ToolError('%s is there, and this tool did not write it: name another output with -o' % there[0])
 
 
 def outputs_of(roles: Iterable[Role]) -> Iterator[Tuple[str, bool]]:
@@ -232,7 +232,7 @@ def outputs_of(roles: Iterable[Role]) -> Iterator[Tuple[str, bool]]:
 
 
 def check(roles: Iterable[Role], inputs: Iterable[str] = ()) -> None:
-    """Raises Trouble if an output is one of the files that are read (`inputs`: more of them), if two outputs are one, or
+    """Raises ToolError if an output is one of the files that are read (`inputs`: more of them), if two outputs are one, or
     if a folder has files that its tool did not write. Call it before anything is opened."""
     roles = list(roles)
     read = read_paths(roles) + list(inputs)
@@ -242,7 +242,7 @@ def check(roles: Iterable[Role], inputs: Iterable[str] = ()) -> None:
     for folder in trees:
         check_tree(folder, read)
     if identity('-') is not None and identity('-') in known:
-        raise Trouble('standard output is also the input: name another output')
+        raise ToolError('standard output is also the input: name another output')
     check_files(list(outputs_of(roles)), known, trees)
     for role in roles:
         if isinstance(role, Stem):
@@ -250,15 +250,15 @@ def check(roles: Iterable[Role], inputs: Iterable[str] = ()) -> None:
 
 
 def check_tree(folder: Tree, read: Iterable[str]) -> None:
-    """Raises Trouble if a folder contains a file that is read, or has files that its tool did not write."""
+    """Raises ToolError if a folder contains a file that is read, or has files that its tool did not write."""
     for path in read:
         if is_inside(path, folder) and (path == '-' or os.path.exists(path)):
-            raise Trouble('%s: the folder contains the input %s: name another folder' % (folder, title(path)))
+            raise ToolError('%s: the folder contains the input %s: name another folder' % (folder, title(path)))
     refuse_foreign(folder, folder.maker)
 
 
 def check_files(outputs: Sequence[Tuple[str, bool]], known: Iterable[object], trees: Sequence[Tree]) -> None:
-    """Raises Trouble if a file that is written is one of `known`, another one, standard output, or within a folder that is
+    """Raises ToolError if a file that is written is one of `known`, another one, standard output, or within a folder that is
     written."""
     seen = {identity('-'): '-'} if identity('-') else {}
     streams = 0
@@ -269,10 +269,10 @@ def check_files(outputs: Sequence[Tuple[str, bool]], known: Iterable[object], tr
         streams += is_output
         name = 'standard output' if path == '-' else path
         if key and key in known and not may_be_read:
-            raise Trouble('%s is also the input: name another output' % name)
+            raise ToolError('%s is also the input: name another output' % name)
         if streams > 1 or key in seen and key is not None and not is_output:
-            raise Trouble('%s: named for two outputs: name another output' % name)
+            raise ToolError('%s: named for two outputs: name another output' % name)
         seen[key] = path
         for folder in trees:
             if stream_of(path) is None and is_inside(path, folder):
-                raise Trouble('%s is within %s, which is written, too: name another output' % (path, folder))
+                raise ToolError('%s is within %s, which is written, too: name another output' % (path, folder))

@@ -8,7 +8,7 @@ import tempfile
 from typing import IO, Iterator, List, Optional, Union
 
 from psxgpu import progress
-from psxgpu.command import BLOCK, Trouble
+from psxgpu.command import BLOCK, ToolError
 from psxgpu.output import Command
 
 TOP = os.path.dirname(os.path.dirname(os.path.dirname(os.path.abspath(__file__))))

@@ -8,7 +8,7 @@ import tempfile
 from typing import Dict, List, NamedTuple, Tuple
 
 from psxgpu import progress
-from psxgpu.command import Trouble
+from psxgpu.command import ToolError
 from psxgpu.output import Content, Tree, folder
 from psxgpu.players.audit import Row
 from psxgpu.players.named import Player

@@ -9,10 +9,10 @@ import unittest
 
 from psxgpu import capture as c
 from psxgpu.__main__ import TOOLS, module_of
-from psxgpu.command import Trouble, parser_of, status_of
+from psxgpu.command import ToolError, parser_of, status_of
 from psxgpu.output import Grown, Role, Stem, Target, Text, Tree
 from tests import support
-from tests.dumps_support import HAND_MADE
+from tests.tools.dumps_support import HAND_MADE
 
 ONLY = ['--only', 'fills']
 CORPUS = ['--player', './other', '--jobs', '1', '--gives', 'vram']
@@ -82,7 +82,7 @@ class EveryOutput(support.InFolder):
         with contextlib.redirect_stdout(io.StringIO()), contextlib.redirect_stderr(io.StringIO()):
             try:
                 return status_of(module_of(tool), 'psxgpu ' + tool, words) or 0, ''
-            except (Trouble, OSError) as error:
+            except (ToolError, OSError) as error:
                 return 2, str(error)
 
     def contents(self):
