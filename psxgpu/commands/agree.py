@@ -15,6 +15,7 @@ import argparse
 from psxgpu.command import DIFFERENT, SAME, ToolError, decimal
 from psxgpu.output import Command, Text
 from psxgpu.packets.generated import CLASSES
+from psxgpu.players import player
 from psxgpu.players.agreement import Score, compare_class
 from psxgpu.players.named import player_of
 from psxgpu.players.trial_run import try_commands
@@ -27,6 +28,7 @@ def arguments(parser: argparse.ArgumentParser) -> None:
     parser.add_argument('captures', nargs='?', type=decimal(1, 1000000), default=100, metavar='CAPTURES',
                         help='the captures of each class (default: 100)')
     parser.add_argument('names', nargs='*', type=Text, metavar='CLASS', help='the classes (default: all)')
+    player.seconds_argument(parser)
     parser.add_argument('--classes', action='store_true', help='list the classes')
 
 
@@ -40,7 +42,7 @@ def run(words: argparse.Namespace) -> int:
     unknown = [name for name in words.names if name not in CLASSES]
     if unknown:
         raise ToolError('there is no class %r: the classes are %s' % (unknown[0], '; '.join(CLASSES)))
-    players = [player_of(command, appends=True) for command in (words.ours, words.theirs)]
+    players = [player_of(command, words.seconds) for command in (words.ours, words.theirs)]
     try_commands(players[0], players[1])
     scores = []
     print('| class | captures | equal | cells that differ in the others |')

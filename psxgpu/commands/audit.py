@@ -22,8 +22,10 @@ from psxgpu import progress
 from psxgpu.command import DIFFERENT, SAME, decimal, title
 from psxgpu.files import read_capture
 from psxgpu.output import Command, Source, tree
+from psxgpu.players import player
 from psxgpu.players.audit import audit
 from psxgpu.players.named import player_of
+from psxgpu.players.trial_run import OURS, THEIRS, try_words
 from psxgpu.reduce.classes import reduce_classes
 
 
@@ -36,6 +38,7 @@ def arguments(parser: argparse.ArgumentParser) -> None:
                         help='the first event to compare (default: 1)')
     parser.add_argument('--last', type=decimal(1, 1 << 62), default=1 << 60, metavar='EVENT',
                         help='the last event to compare (default: that of the capture)')
+    player.seconds_argument(parser)
     parser.add_argument('--reduce', '-o', type=tree('psxgpu audit'), metavar='DIR',
                         help='write the smallest capture for each class that differs, and index.html, a table of them')
 
@@ -43,7 +46,9 @@ def arguments(parser: argparse.ArgumentParser) -> None:
 def run(words: argparse.Namespace) -> int:
     """Prints the table and the first packet of each class that differs."""
     name, data = title(words.capture), read_capture(words.capture)
-    ours, theirs = player_of(words.ours, appends=True), player_of(words.theirs, appends=True)
+    ours, theirs = player_of(words.ours, words.seconds), player_of(words.theirs, words.seconds)
+    for one, role in ((ours, OURS), (theirs, THEIRS)):
+        try_words(one, role)
     with progress.shown(name, is_quiet=True):
         rows = audit(data, ours, theirs, words.first, words.last, name)
     print('| packets | number | equal | cells looked at | that differ | by more than one step |')

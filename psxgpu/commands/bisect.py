@@ -44,12 +44,13 @@ def arguments(parser: argparse.ArgumentParser) -> None:
     parser.add_argument('--ignore', action='append', choices=sorted(CLASSES) + list(NAMES), default=[], metavar='CLASS',
                         help='a class of packets whose differences are known, some of: '
                              + ', '.join(sorted(CLASSES) + list(NAMES)))
+    player.seconds_argument(parser)
     player.argument(parser)
 
 
 def search(words: argparse.Namespace, path: str, name: str, program: str) -> int:
     """Prints the first packet after which the dumps differ. Returns the status."""
-    ours, theirs = player_of(words.ours), player_of(words.theirs)
+    ours, theirs = player_of(words.ours, words.seconds), player_of(words.theirs, words.seconds)
 
     def shows(beginning_path: str) -> bool:
         """Whether the dumps of the beginning of the capture differ."""

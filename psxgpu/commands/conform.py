@@ -32,8 +32,8 @@ from psxgpu.conformance.released import SUITE, WITHDRAWN
 from psxgpu.conformance.suite import Test
 from psxgpu.output import Command, Content, Target, Text, tree, write_several
 from psxgpu.players import player
-from psxgpu.players.named import Player, expect_dump, player_of
-from psxgpu.stream import HEADS
+from psxgpu.players.named import Player, player_of
+from psxgpu.players.trial_run import try_player
 
 
 def arguments(parser: argparse.ArgumentParser) -> None:
@@ -82,7 +82,7 @@ def version() -> str:
 
 def run_tests(tests: List[Test], tested: Player, jobs: int, seconds: int) -> List[Verdict]:
     """Returns the verdicts."""
-    expect_dump(tested, HEADS[1] + bytes(4))
+    try_player(tested, seconds=seconds)
     judge = Judge(tested, seconds)
     with progress.shown(tested.text, is_quiet=True) as line, ThreadPoolExecutor(jobs) as pool:
         verdicts = []
@@ -104,7 +104,7 @@ def status_of(verdicts: List[Verdict], strict: bool) -> int:
 
 def test_player(words: argparse.Namespace, tests: List[Test]) -> int:
     """Runs the tests, and prints and writes what is found. Returns the status."""
-    tested = player_of(words.tested, appends=True)
+    tested = player_of(words.tested)
     start = time.monotonic()
     verdicts = run_tests(tests, tested, words.jobs, words.seconds)
     seconds = time.monotonic() - start

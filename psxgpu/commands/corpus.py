@@ -93,7 +93,9 @@ def record(words: argparse.Namespace) -> int:
     """Writes the file of sums. Returns the status."""
     found = captures(words)
     check_roles([words.golden], [it.path for it in found])
-    sums = play_into(words.golden, player_of(words, words.marks), found, words.jobs)
+    player = player_of(words, words.marks)
+    player.ask_first()
+    sums = play_into(words.golden, player, found, words.jobs)
     ends = [row.end.split()[0] for row in sums.rows.values()]
     kinds = ['%d %s' % (ends.count(kind), kind) for kind in sorted(set(ends))]
     print('%s: %s' % (report.counted(len(ends)), ', '.join(kinds)))
@@ -106,6 +108,7 @@ def check(words: argparse.Namespace) -> int:
     report_folder = words.report or tree(REPORT)('corpus-report')
     check_roles([words.golden, report_folder], [it.path for it in found])
     player = player_of(words, 'marks' in want.gives)
+    player.ask_first()
     with folder(report_folder) as out:
         journal = out.keep('played.sums', 'played.sums.part')
         got = play_into(journal, player, found, words.jobs, words.played)
@@ -123,6 +126,8 @@ def look_at(findings: List[Finding], paths: Dict[str, str], player: Player, word
             out: Folder) -> None:
     """Adds to the findings that differ what can be found of them: the first packet, a picture, the smallest capture."""
     reference = Player(words.reference, words.limit) if words.reference else None
+    if reference:
+        reference.ask_first()
     places = Places(player, reference)
     for finding in [it for it in findings if it.kind == 'different' and it.name in paths][:words.pictures]:
         with plain(paths[finding.name], finding.name) as path:

@@ -34,7 +34,7 @@ from psxgpu.packets.known import CLASSES, NAMES
 from psxgpu.players import player
 from psxgpu.players.flat import flattened
 from psxgpu.players.named import player_of
-from psxgpu.players.trial_run import try_players
+from psxgpu.players.trial_run import OURS, THEIRS, try_players, try_words, version_for
 from psxgpu.reduce.faults import BreaksDown, DumpsDiffer, Fault, WordsDiffer
 from psxgpu.reduce.job import Job, Wanted
 from psxgpu.reduce.report import files_of, report_lines
@@ -59,8 +59,7 @@ def arguments(parser: argparse.ArgumentParser) -> None:
                         help='cells whose channels are at most N steps apart count as equal')
     parser.add_argument('--ignore', action='append', choices=sorted(CLASSES) + list(NAMES), default=[], metavar='CLASS',
                         help='a class of packets whose differences are known')
-    parser.add_argument('--seconds', type=decimal(1, 3600), default=60, metavar='N',
-                        help='for one run of a player (default: %(default)s)')
+    player.seconds_argument(parser)
     parser.add_argument('--jobs', type=decimal(1, 1000), default=len(os.sched_getaffinity(0)), metavar='N',
                         help='players at a time (default: one for each processor)')
     parser.add_argument('--exe', action='store_true', help='also write NAME.exe, a program for the console')
@@ -82,9 +81,12 @@ def write_program(capture: str, name: str) -> None:
 
 def search(words: argparse.Namespace, path: str, name: str) -> int:
     """Searches and writes; returns the status."""
-    ours, theirs = player_of(words.ours), player_of(words.theirs)
-    if not words.words:
-        try_players(ours, theirs, path, words.seconds)
+    ours, theirs = player_of(words.ours, words.seconds), player_of(words.theirs, words.seconds)
+    if words.words:
+        for one, role in ((ours, OURS), (theirs, THEIRS)):
+            try_words(one, role, version_for(path))
+    else:
+        try_players(ours, theirs, path)
     wanted = Wanted(fault_of(words), words.ignore, words.keep, words.event, words.player)
     begin = time.monotonic()
     with Job(ours, theirs, wanted, words.seconds, words.jobs) as job:

@@ -118,7 +118,7 @@ def found_program(given: Optional[str]) -> Optional[str]:
     try:
         return player.find(given)
     except ToolError:
-        if given:
+        if player.is_named(given):
             raise
         return None
 

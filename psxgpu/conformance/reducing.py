@@ -5,6 +5,7 @@ import tempfile
 from typing import List, Optional
 
 from psxgpu.command import ToolError
+from psxgpu.errors import counted
 from psxgpu.conformance.answers import SECONDS
 from psxgpu.conformance.judging import DIFFERS, FAILED, Verdict
 from psxgpu.output import Folder, Tree, folder
@@ -13,7 +14,7 @@ from psxgpu.players.flat import flattened
 from psxgpu.players.named import Player, player_of
 from psxgpu.reduce.faults import DumpsDiffer, Fault, WordsDiffer
 from psxgpu.reduce.job import Job, Wanted
-from psxgpu.reduce.report import counted, files_of
+from psxgpu.reduce.report import files_of
 
 
 def reduce_one(verdict: Verdict, ours: Player, theirs: Player, out: Folder, program: str) -> Optional[str]:
@@ -36,7 +37,7 @@ def reduce_one(verdict: Verdict, ours: Player, theirs: Player, out: Folder, prog
 def reduce_all(verdicts: List[Verdict], theirs: Player, path: Tree, given: Optional[str]) -> List[str]:
     """Reduces each failure whose cells or words differ. Returns a line for each. Raises ToolError without psxgpu_tool."""
     program = player.find(given)
-    ours = player_of(program, appends=True)
+    ours = player_of(program)
     lines = []
     with folder(path) as out:
         for verdict in verdicts:

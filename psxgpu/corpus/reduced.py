@@ -6,6 +6,7 @@ import tempfile
 from typing import List
 
 from psxgpu.command import ToolError
+from psxgpu.errors import counted
 from psxgpu.corpus.findings import Finding
 from psxgpu.corpus.play import Player
 from psxgpu.corpus.scan import copy_first, frames
@@ -13,7 +14,7 @@ from psxgpu.output import Folder
 from psxgpu.players.flat import flattened
 from psxgpu.reduce.faults import DumpsDiffer, Fault, WordsDiffer
 from psxgpu.reduce.job import Job, Wanted
-from psxgpu.reduce.report import counted, files_of, report_lines
+from psxgpu.reduce.report import files_of, report_lines
 
 
 def reduce_finding(finding: Finding, path: str, player: Player, reference: Player, out: Folder) -> None:

@@ -9,12 +9,13 @@ from typing import Dict, List, NamedTuple, Tuple
 
 from psxgpu import progress
 from psxgpu.command import ToolError
+from psxgpu.errors import counted
 from psxgpu.output import Content, Tree, folder
 from psxgpu.players.audit import Row
 from psxgpu.players.named import Player
 from psxgpu.reduce.faults import DumpsDiffer
 from psxgpu.reduce.job import Job, Wanted
-from psxgpu.reduce.report import counted, files_of, report_lines
+from psxgpu.reduce.report import files_of, report_lines
 
 PAGE = '''<!doctype html>
 <html lang="en"><meta charset="utf-8"><title>%(name)s, by classes</title><style>

@@ -4,6 +4,7 @@ from __future__ import annotations
 from typing import Iterator, List, NamedTuple, Optional, Sequence, Tuple
 
 from psxgpu.difference import Difference, beside, compared
+from psxgpu.errors import ToolError, counted
 from psxgpu.image import Image, png
 from psxgpu.output import Content
 from psxgpu.packets.known import CLASSES
@@ -36,11 +37,6 @@ class Reduced(NamedTuple):
         return sum(unit.size for unit in self.units)
 
 
-def counted(count: int, what: str, ending: str = 's') -> str:
-    """Returns a number with its noun. `ending`: of the plural."""
-    return '%d %s%s' % (count, what, '' if count == 1 else ending)
-
-
 def how_it_differs(reducer: Reducer, data: bytes) -> Tuple[List[str], Optional[Tuple[bytes, bytes]]]:
     """Returns the lines that say how both players differ on `data`, and their dumps, if these differ."""
     prober = reducer.prober
@@ -49,12 +45,13 @@ def how_it_differs(reducer: Reducer, data: bytes) -> Tuple[List[str], Optional[T
         return ['their player gives no dump: %s' % ending(done)], None
     if isinstance(prober.fault, WordsDiffer):
         found = prober.fault.first(prober.ours, prober.theirs, data, prober.seconds)
-        return ['word %d: %08x and %08x' % found] if found else [], None
+        return ['word %d: ours %08x, theirs %08x' % found] if found else [], None
     ours, theirs = (dump_of(player.run('vram', data, prober.seconds)) for player in (prober.ours, prober.theirs))
-    if ours is None or theirs is None:
-        return [], None
     tolerance = prober.fault.tolerance if isinstance(prober.fault, DumpsDiffer) else 0
-    return compared(ours, theirs, tolerance).lines(), (ours, theirs)
+    difference = compared(ours, theirs, tolerance) if ours and theirs else None
+    if not ours or not theirs or difference is None or not difference.count:
+        raise ToolError('the smallest capture does not show the difference again: a player writes other bytes each time')
+    return difference.lines(), (ours, theirs)
 
 
 def reduced(reducer: Reducer, name: str, event: int) -> Reduced:

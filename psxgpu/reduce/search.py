@@ -61,5 +61,6 @@ class Search:
     def step(self, steps: Steps, name: str) -> Optional[int]:
         """Returns the first step after which the fault is there, or that of the given event."""
         if self.event:
-            return step_of_event(steps, name, self.event)
+            k = step_of_event(steps, name, self.event)
+            return k if self.prober.look(steps.prefixes.data(k)) else None
         return bisect(steps.count, lambda n: self.prober.look(steps.prefixes.data(n)))

@@ -97,7 +97,7 @@ class Outputs(support.InFolder):
     def test_one_picture_is_not_the_other(self):
         self.write('in', DUMP)
         done = support.run_tool('compare', 'in', 'in', 'out', '--side', './out', cwd=self.folder)
-        self.expect_trouble(done, './out: named for two outputs')
+        self.expect_error(done, './out: named for two outputs')
         self.expect_alone('in')
 
     def test_join_appends(self):
