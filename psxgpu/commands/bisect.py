@@ -22,6 +22,7 @@ import contextlib
 from psxgpu import progress
 from psxgpu.command import DIFFERENT, SAME, decimal, title
 from psxgpu.difference import compared
+from psxgpu.errors import counted
 from psxgpu.files import plain
 from psxgpu.output import Command, Source
 from psxgpu.packets.known import CLASSES, NAMES
@@ -66,7 +67,7 @@ def search(words: argparse.Namespace, path: str, name: str, program: str) -> int
             players = Players(ours, theirs, words.tolerance, steps, program)
             k = bisect(steps.count, players.differ, players.narrow)
         if k is None:
-            print('no difference after %d packets' % steps.lines[steps.count])
+            print('no difference after %s' % counted(steps.lines[steps.count], 'packet'))
             return SAME
         if k == 0:
             print('they differ before the first packet')

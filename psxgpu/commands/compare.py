@@ -49,7 +49,9 @@ def are_recordings(paths: Tuple[str, str]) -> bool:
     if one file is a recording and the other is not."""
     found = [is_recording(path) for path in paths]
     if any(found) and any(not it and os.path.isfile(path) for it, path in zip(found, paths)):
-        raise ToolError('%s and %s: one is a recording' % paths)
+        recording, other = paths if found[0] else paths[::-1]
+        raise ToolError('%s is a recording, %s is not: compare it with a dump of the recording: '
+                        'psxgpu_tool vram < %s > vram.bin' % (recording, other, recording))
     return any(found)
 
 

@@ -20,7 +20,7 @@ import argparse
 import os
 import shlex
 import sys
-from typing import Dict, List
+from typing import Callable, Dict, List, Tuple
 
 from psxgpu.command import DIFFERENT, SAME, ToolError, decimal
 from psxgpu.corpus import report
@@ -35,9 +35,11 @@ from psxgpu.corpus.reduced import reduce_finding
 from psxgpu.corpus.scan import FLIP, MARK
 from psxgpu.corpus.sums import Sums, as_bytes, read_sums, write_text
 from psxgpu.files import plain
-from psxgpu.output import Command, Folder, Source, Target, Text, check as check_roles, folder, tree, writing
+from psxgpu.output import check as check_roles
+from psxgpu.output import Command, Folder, Role, Source, Target, Text, folder, roles_in, tree, writing
 from psxgpu.players.player import find
 
+SPLIT = 'psxgpu corpus split'
 USUAL = ('frames', 'vram', 'words')
 # The arguments that each action needs beside its places.
 WANTED = {'record': ('golden',), 'check': ('golden',), 'join': ('golden',), 'split': ('parts', 'into'), 'glue': ()}
@@ -71,7 +73,10 @@ def arguments(parser: argparse.ArgumentParser) -> None:
     parser.add_argument('--pictures', type=decimal(0, 100000), default=50, metavar='N',
                         help='check: the most pictures in the report (default: %(default)s)')
     parser.add_argument('--parts', type=decimal(2, 1000), metavar='N', help='split: the number of parts')
-    parser.add_argument('--into', type=tree('psxgpu corpus split'), metavar='FOLDER', help='split: the folder for the parts')
+    parser.add_argument('-o', '--output', type=Text, metavar='PATH',
+                        help='the same as --golden for record and join, --report for check, --into for split; glue: the '
+                             'file to write (default: standard output)')
+    parser.add_argument('--into', type=tree(SPLIT), metavar='FOLDER', help='split: the folder for the parts')
 
 
 def player_of(words: argparse.Namespace, marks: bool = False) -> Player:
@@ -151,8 +156,26 @@ def join(words: argparse.Namespace) -> int:
     return SAME
 
 
+OUTPUTS: Dict[str, Tuple[str, Callable[[str], Role]]] = {
+    'record': ('golden', Target), 'join': ('golden', Target), 'check': ('report', tree(REPORT)),
+    'split': ('into', tree(SPLIT)), 'glue': ('output', Target)}
+
+
+def name_output(words: argparse.Namespace) -> None:
+    """Lets -o name the output of the action."""
+    name, kind = OUTPUTS[words.action]
+    given, words.output = words.output, None
+    if given is None:
+        return
+    if getattr(words, name) is not None:
+        raise ToolError('two outputs are named: %s and %s' % (getattr(words, name), given))
+    setattr(words, name, kind(given))
+    check_roles(roles_in(words))
+
+
 def run(words: argparse.Namespace) -> int:
     """Does the action."""
+    name_output(words)
     missing = ['--' + name for name in WANTED[words.action] if getattr(words, name) is None]
     if missing:
         raise ToolError('%s needs %s' % (words.action, ' and '.join(missing)))
@@ -163,7 +186,7 @@ def run(words: argparse.Namespace) -> int:
             raise ToolError('split takes one capture')
         split(words.places[0], words.parts, words.into, player_of(words), MARK if words.marks else FLIP)
     elif words.action == 'glue':
-        with writing('-', words.places[1:], is_text=words.places[0] != 'frames') as out:
+        with writing(words.output or '-', words.places[1:], is_text=words.places[0] != 'frames') as out:
             glue(words.places[0], words.places[1:], out)
     else:
         actions = {'record': record, 'check': check, 'join': join}

@@ -20,6 +20,7 @@ import argparse
 from typing import Optional, Tuple
 
 from psxgpu.command import ToolError, decimal, title
+from psxgpu.errors import counted
 from psxgpu.heat.counting import Counter, Frame
 from psxgpu.heat.picture import Counts, counts_of, picture
 from psxgpu.image import write_image
@@ -74,10 +75,11 @@ def run(words: argparse.Namespace) -> None:
     with plain(words.capture) as path, flattened(path, program) as flat:
         counter = Counter(Walk(flat, name, program), FLIP if words.flips else MARK)
         counter.go()
+        last = len(counter.frames) - (not counter.frames[-1].packets)
+        if words.frame and words.frame > last:
+            raise ToolError('%s: there is no frame %d: it has %s' % (name, words.frame, counted(last, 'frame')))
         number, counts = frames(counter, words.frame)
-    if words.frame and words.frame != number:
-        raise ToolError('%s: it has %d frames' % (name, len(counter.frames)))
-    if words.frame and counts is None:
+    if words.frame and (counts is None or number != words.frame):
         raise ToolError('%s: frame %d covers no cell' % (name, words.frame))
     if counts is None:
         return

@@ -11,6 +11,7 @@ packets before the fault end the list.
 Status: 0 all was listed, 2 an error, a refusal, or nothing to list.
 """
 import argparse
+import json
 import re
 import sys
 from typing import List
@@ -37,6 +38,7 @@ def arguments(parser: argparse.ArgumentParser) -> None:
     parser.add_argument('--events', type=decimal(1, 1 << 62), nargs=2, metavar=('FIRST', 'LAST'),
                         help='only these events')
     parser.add_argument('--line', action='store_true', help='all of a packet on one line')
+    parser.add_argument('--json', action='store_true', help='a JSON object for each packet, on one line')
     player.argument(parser)
 
 
@@ -47,10 +49,12 @@ def is_asked_for(words: argparse.Namespace, entry: Entry) -> bool:
     return not words.events or bool(words.events[0] <= entry.event <= words.events[1])
 
 
-def entry_text(entry: Entry, on_one_line: bool) -> str:
+def entry_text(entry: Entry, words: argparse.Namespace) -> str:
     """Returns an entry with its fields."""
     fields = entry.fields()
-    if on_one_line:
+    if words.json:
+        return json.dumps(dict(event=entry.event, name=entry.name, line=entry.line, area=entry.area, fields=fields)) + '\n'
+    if words.line:
         return ' | '.join([entry.line] + (['; '.join(fields)] if fields else [])) + '\n'
     return '\n    '.join((entry.line, *fields)) + '\n'
 
@@ -73,7 +77,7 @@ def write_entries(listing: Listing, words: argparse.Namespace, is_whole: bool) -
     try:
         for entry in listing:
             if is_whole or is_asked_for(words, entry):
-                texts.append(entry_text(entry, words.line))
+                texts.append(entry_text(entry, words))
                 count += 1
                 if len(texts) == together:
                     sys.stdout.write(''.join(texts))

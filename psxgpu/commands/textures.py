@@ -19,6 +19,7 @@ import argparse
 import os
 
 from psxgpu.command import title
+from psxgpu.errors import counted
 from psxgpu.files import plain
 from psxgpu.output import Source, folder, tree
 from psxgpu.players import player
@@ -55,5 +56,6 @@ def run(words: argparse.Namespace) -> None:
         out.put('index.html', page(os.path.basename(name), textures).encode(errors='replace'))
         if textures:
             out.put('sheet.png', sheet(textures))
-    print('%d textures, %d of them parts of others; %d questions for %d packets'
-          % (count, count - len(textures), len(collector.asked), collector.packets))
+    print('%s, %d of them parts of others; %s for %s'
+          % (counted(count, 'texture'), count - len(textures), counted(len(collector.asked), 'question'),
+             counted(collector.packets, 'packet')))

@@ -23,7 +23,7 @@ from psxgpu.packing import packing
 from psxgpu.players import player
 from psxgpu.players.flat import flattened
 from psxgpu.stream import Stream
-from psxgpu.errors import title
+from psxgpu.errors import counted, title
 
 
 def arguments(parser: argparse.ArgumentParser) -> None:
@@ -52,5 +52,5 @@ def run(words: argparse.Namespace) -> None:
             for piece in export:
                 target.write(piece)
     if export.left_out:
-        print('%s: %d events are left out: reads of the status and control words' % (name, export.left_out),
+        print('%s: left out: %s: reads of the status and control words' % (name, counted(export.left_out, 'event')),
               file=sys.stderr)

@@ -5,6 +5,7 @@ from typing import IO, List, Sequence, Tuple
 from psxgpu.command import ToolError, pour
 from psxgpu.corpus.play import Player
 from psxgpu.corpus.scan import FLIP, copy_first, frames
+from psxgpu.errors import counted
 from psxgpu.files import plain
 from psxgpu.output import Tree, folder
 
@@ -21,7 +22,7 @@ def places(path: str, parts: int, opcode: int) -> List[int]:
     wanted = [last * k // parts for k in range(1, parts)]
     chosen = sorted({nearest(found, want) for want in wanted} if found else set())
     if len(chosen) + 1 < parts:
-        raise ValueError('%d frames, too few for %d parts' % (len(found), parts))
+        raise ValueError('%s, too few for %d parts' % (counted(len(found), 'frame'), parts))
     return chosen + [last]
 
 

@@ -177,3 +177,4 @@ class Counter:
             yield frame
         for _ in answers:
             pass
+        self.questions.close()

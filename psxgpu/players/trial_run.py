@@ -6,6 +6,7 @@ from typing import List, Optional, Tuple
 
 from psxgpu.capture import Capture
 from psxgpu.command import ToolError, reading
+from psxgpu.errors import counted
 from psxgpu.players.named import Player, dump_of, ending, expect_dump
 from psxgpu.registers import drawing_area
 from psxgpu.stream import Stream
@@ -81,11 +82,12 @@ def words_of(player: Player, data: bytes, seconds: Optional[float] = None) -> Li
 def try_words(player: Player, role: str, version: int = 1, seconds: Optional[float] = None) -> None:
     """Raises ToolError if a player does not write the words that it reads, if video memory does not start as zeros, or if
     it writes other bytes for the same capture."""
-    data = Capture(version).gp0(store(0, 0, 2, 1)).read().stat().bytes()
+    capture = Capture(version).gp0(store(0, 0, 2, 1)).read()
+    data = capture.gp0(load(64, 0, 2, 1, [1, 2]), store(64, 0, 2, 1)).read().bytes()
     words = words_of(player, data, seconds)
     if len(words) != 2:
-        raise refuse(player, role, 'writes %d words of eight digits with `play`, where a capture has a read and a status'
-                     % len(words))
+        raise refuse(player, role, 'writes %s of eight digits with `play` for a capture with two reads'
+                     % counted(len(words), 'word'))
     if words[0]:
         raise refuse(player, role, 'starts with other cells than 0: (0, 0) is %04x' % (words[0] & 0xFFFF))
     if words_of(player, data, seconds) != words:

@@ -6,6 +6,7 @@ import os
 from typing import Callable, Iterator, List, NamedTuple, Optional
 
 from psxgpu.command import ToolError
+from psxgpu.errors import counted
 from psxgpu.players.bisection import bisect, build
 from psxgpu.players import player
 from psxgpu.players.beginning import FIRST_LOOK, beginning
@@ -25,7 +26,7 @@ def step_of_event(steps: Steps, name: str, event: int) -> int:
     for k in range(1, steps.count + 1):
         if steps.events[k] >= event:
             return k
-    raise ToolError('%s: it has %d events' % (name, steps.events[-1]))
+    raise ToolError('%s: it has %s' % (name, counted(steps.events[-1], 'event')))
 
 
 class Search:

@@ -38,7 +38,7 @@ class Checked(support.InFolder):
 
     def test_transfers(self):
         status, lines = self.report(c.Capture(2).begin(0x1000, 0x00020004, c.BLOCKS_IN).turn().bytes())
-        self.assertEqual((status, lines[4]), (1, 'not finished: a transfer of DMA: 4 words are left at 001010'))
+        self.assertEqual((status, lines[4]), (1, 'not finished: a transfer of DMA: 4 words left at 001010'))
         status, lines = self.report(c.Capture(2).begin(0x1000, 0, c.LIST).bytes())
         self.assertEqual((status, lines[4]), (1, 'not finished: a linked list of DMA: the next node is at 001000'))
 

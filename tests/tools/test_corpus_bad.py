@@ -88,4 +88,4 @@ class Bad(Corpus):
         child.send_signal(signal.SIGINT)
         out, err = child.communicate(timeout=90)
         self.assertEqual((child.returncode, out), (2, ''))
-        self.assertRegex(err, 'interrupted; 1 of 2 captures are kept in golden.part: run it again to go on')
+        self.assertRegex(err, 'interrupted; 1 of 2 captures are kept in golden.part: run it again to continue')

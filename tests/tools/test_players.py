@@ -84,9 +84,9 @@ class Wrong(support.InFolder):
 
     def test_words(self) -> None:
         try_words(SmallPlayer(), OURS)
-        for command, want in (('echo 7fff7fff; echo 14802000 #', 'starts with other cells than 0: .0, 0. is 7fff'),
-                              ('echo 14802000 #', 'writes 1 words of eight digits'), ('false', 'no words .status 1, 0 bytes'),
-                              ('echo 00000000; printf "%08x\\n" $$ #', 'writes other bytes each time')):
+        for command, want in (('echo 7fff7fff; echo 00000000 #', 'starts with other cells than 0: .0, 0. is 7fff'),
+                              ('echo status #', 'writes 0 words of eight digits'), ('false', 'no words .status 1, 0 bytes'),
+                              ('echo 00000000; printf "%08d\\n" $$ #', 'writes other bytes each time')):
             with self.subTest(command), self.assertRaisesRegex(ToolError, want):
                 try_words(CommandPlayer(command), OURS)
 
