@@ -1,6 +1,7 @@
 """Runs the tools of this project: psxgpu NAME .. (in a checkout: python3 -m psxgpu NAME ..).
 
-`psxgpu NAME --help` explains the arguments of a tool, `psxgpu --version` prints the version.
+`psxgpu NAME --help` or `psxgpu help NAME` explains the arguments of a tool, `psxgpu help NAME --OPTION` lists the values
+of an option that has some, `psxgpu --version` prints the version.
 Status: 0 equal, or done; 1 different, or something to look at; 2 an error, with one line on standard error.
 """
 import os
@@ -35,10 +36,22 @@ def main(words: Optional[List[str]] = None) -> int:
     words = sys.argv[1:] if words is None else words
     name, rest = (words[0], words[1:]) if words else ('--help', [])
     if name == 'help' and rest[:1] and rest[0] in TOOLS:
+        if rest[1:]:
+            return command.guarded('psxgpu', lambda: print_values(rest[0], rest[1]))
         name, rest = rest[0], ['--help']
     if name in TOOLS:
         return command.main(module_of(name), rest, 'psxgpu ' + name)
     return command.guarded('psxgpu', lambda: answer(name))
+
+
+def print_values(tool: str, option: str) -> None:
+    """Prints the values of an option, a line each, if it has some: shells complete them."""
+    from psxgpu.command import parser_of
+    module = module_of(tool)
+    action = parser_of(module, 'psxgpu ' + tool)._option_string_actions.get(option)
+    more = getattr(module, 'VALUES', {}).get(option)
+    values = more() if more else action.choices if action and action.choices else ()
+    sys.stdout.write(''.join('%s\n' % value for value in values))
 
 
 def answer(name: str) -> None:

@@ -64,6 +64,14 @@ def every_test() -> List[Test]:
     return [test for chapter in CHAPTERS for test in chapter.tests]
 
 
+def names_of_tests() -> List[str]:
+    """Returns what --only takes: the chapters and the tests."""
+    return [chapter.name for chapter in CHAPTERS] + [test.full_name for test in every_test()]
+
+
+VALUES = {'--only': names_of_tests}
+
+
 def chosen(names: List[str]) -> List[Test]:
     """Returns the tests of these chapters and of these full names; all without names."""
     tests = every_test()

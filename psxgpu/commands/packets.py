@@ -53,7 +53,8 @@ def entry_text(entry: Entry, words: argparse.Namespace) -> str:
     """Returns an entry with its fields."""
     fields = entry.fields()
     if words.json:
-        return json.dumps(dict(event=entry.event, name=entry.name, line=entry.line, area=entry.area, fields=fields)) + '\n'
+        area = [int(number) for number in entry.area.split() if number != '-']
+        return json.dumps(dict(event=entry.event, name=entry.name, line=entry.line, area=area, fields=fields)) + '\n'
     if words.line:
         return ' | '.join([entry.line] + (['; '.join(fields)] if fields else [])) + '\n'
     return '\n    '.join((entry.line, *fields)) + '\n'

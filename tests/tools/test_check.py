@@ -1,4 +1,5 @@
 """Reports on captures."""
+import json
 import unittest
 
 from tests import support
@@ -58,3 +59,15 @@ class Checked(support.InFolder):
         self.assertEqual(self.report(capture.bytes())[1][-1], 'slim leaves out: 3 of 8 events')
         self.assertEqual(self.report(support.example('turns'))[1][-1],
                          'slim leaves out: 0 of 20 events of the flat capture')
+
+    def test_several(self):
+        """Each has its name; an error of one does not end the others."""
+        self.write('a', c.Capture().gp0(0).bytes())
+        self.write('b', c.Capture().gp0(0x20000000).bytes())
+        done = support.run_tool('check', 'a', 'none', 'b', cwd=self.folder)
+        self.assertEqual((done.returncode, done.stderr), (2, 'psxgpu check: none: No such file or directory\n'))
+        self.assertEqual([line for line in done.stdout.splitlines() if line.endswith(':')], ['a:', 'b:'])
+        done = support.run_tool('check', 'a', 'b', '--json', cwd=self.folder)
+        found = json.loads(done.stdout)
+        self.assertEqual((done.returncode, [it['capture'] for it in found]), (1, ['a', 'b']))
+        self.assertEqual([bool(it['unfinished']) for it in found], [False, True])
