@@ -45,7 +45,7 @@ def arguments(parser: argparse.ArgumentParser) -> None:
     parser.add_argument('--json', type=Target, metavar='FILE', help='write the verdicts')
     parser.add_argument('--reduce', type=tree('psxgpu conform --reduce'), metavar='FOLDER',
                         help='write the smallest capture that still shows each failure')
-    parser.add_argument('--write', '-o', type=tree('psxgpu conform --write'), metavar='FOLDER',
+    parser.add_argument('--write', '-o', type=tree(folder.MAKER), metavar='FOLDER',
                         help='write the tests as files, and what they expect')
     parser.add_argument('--exe', action='store_true', help='with --write: also programs for the console')
     parser.add_argument('--jobs', type=decimal(1, 1024), default=1, metavar='N',

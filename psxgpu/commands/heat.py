@@ -17,6 +17,7 @@ Status: 0 written, 2 an error.
 from __future__ import annotations
 
 import argparse
+import contextlib
 from typing import Optional, Tuple
 
 from psxgpu.command import ToolError, decimal, title
@@ -74,11 +75,12 @@ def run(words: argparse.Namespace) -> None:
     program, name = player.find(words.player), title(words.capture)
     with plain(words.capture) as path, flattened(path, program) as flat:
         counter = Counter(Walk(flat, name, program), FLIP if words.flips else MARK)
-        counter.go()
-        last = len(counter.frames) - (not counter.frames[-1].packets)
-        if words.frame and words.frame > last:
-            raise ToolError('%s: there is no frame %d: it has %s' % (name, words.frame, counted(last, 'frame')))
-        number, counts = frames(counter, words.frame)
+        with contextlib.closing(counter.questions):
+            counter.go()
+            last = len(counter.frames) - (not counter.frames[-1].packets)
+            if words.frame and words.frame > last:
+                raise ToolError('%s: there is no frame %d: it has %s' % (name, words.frame, counted(last, 'frame')))
+            number, counts = frames(counter, words.frame)
     if words.frame and (counts is None or number != words.frame):
         raise ToolError('%s: frame %d covers no cell' % (name, words.frame))
     if counts is None:

@@ -16,6 +16,7 @@ Status: 0 written, 2 an error.
 from __future__ import annotations
 
 import argparse
+import contextlib
 import os
 
 from psxgpu.command import title
@@ -45,8 +46,9 @@ def run(words: argparse.Namespace) -> None:
     program, name = player.find(words.player), title(words.capture)
     with plain(words.capture) as path, flattened(path, program) as flat:
         collector = Collector(Walk(flat, name, program))
-        collector.go()
-        textures = distinct(collector.used(), words.half)
+        with contextlib.closing(collector.questions):
+            collector.go()
+            textures = distinct(collector.used(), words.half)
     count = len(textures)
     if not words.parts:
         textures = without_parts(textures)

@@ -22,10 +22,11 @@ from psxgpu.conformance.suite import Test
 from psxgpu.console import executable
 from psxgpu.dumps.export import About, Export
 from psxgpu.output import Folder as Output
-from psxgpu.output import Tree, folder
+from psxgpu.output import folder
 from psxgpu.players import player
 from psxgpu.stream import HEADS, SKIP, Stream, encode
 
+MAKER = 'psxgpu conform --write'
 MACHINE = frozenset(('dma', 'turns'))       # what a test needs whose capture is not flat
 
 
@@ -123,9 +124,9 @@ def found_program(given: Optional[str]) -> Optional[str]:
         return None
 
 
-def write(tests: Sequence[Test], path: Tree, program: Optional[str], has_programs: bool = False) -> List[str]:
+def write(tests: Sequence[Test], path: str, program: Optional[str], has_programs: bool = False) -> List[str]:
     """Writes the files of tests into a folder. Returns a line for each kind of which some are left out."""
-    with folder(path) as out:
+    with folder(path, MAKER) as out:
         made = Folder(out, program, has_programs)
         for test in progress.counted(tests, path):
             made.test(test)

@@ -177,4 +177,3 @@ class Counter:
             yield frame
         for _ in answers:
             pass
-        self.questions.close()

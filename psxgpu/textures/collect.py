@@ -147,4 +147,3 @@ class Collector:
             texels, palette = (held, cells) if held is not None else (cells, None)
             held = None
             yield Used(one.source, one.event, one.uses, texels, palette)
-        self.questions.close()

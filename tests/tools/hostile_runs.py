@@ -92,7 +92,7 @@ def run(r, folder):
             file.write(data)
     os.symlink('a.capture', os.path.join(folder, 'link'))
     words = command_line(r)
-    child = subprocess.Popen([sys.executable, '-W', 'error', '-X', 'dev', '-m', 'psxgpu', *words], cwd=folder,
+    child = subprocess.Popen([sys.executable, '-S', '-W', 'error', '-X', 'dev', '-m', 'psxgpu', *words], cwd=folder,
                              stdin=subprocess.DEVNULL, stdout=subprocess.PIPE, stderr=subprocess.PIPE)
     number = 0
     if r.random() < 0.3:

@@ -112,7 +112,7 @@ class Audits(unittest.TestCase):
         """The smallest capture of the class that differs, and the page. A row too few is there in one of 16 cells."""
         folder = os.path.join(self.folder, 'small')
         status, lines = self.audit(self.fills(), self.shorter, '--reduce', folder)
-        self.assertEqual((status, lines[-1]), (1, '1 classes reduced: %s' % os.path.join(folder, 'index.html')))
+        self.assertEqual((status, lines[-1]), (1, '1 class reduced: %s' % os.path.join(folder, 'index.html')))
         self.assertEqual(sorted(os.listdir(folder)), ['fill.capture', 'fill.log', 'fill.png', 'fill.py', 'index.html'])
         with open(os.path.join(folder, 'fill.capture'), 'rb') as file:
             (kind, _, words), = c.records(file.read())[1]

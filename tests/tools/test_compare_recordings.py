@@ -71,7 +71,7 @@ class Recordings(support.InFolder):
     def test_first_frame(self):
         status, lines = self.compare(film(1, 2, 3), film(1, 7, 3, reads=1), 'd.png', '--side', 's.png')
         self.assertEqual((status, lines[0]), (1, 'first differing frame: 2, event 8 and event 10'))
-        self.assertRegex(lines[1], '^2 by 1 [0-9a-f]{64} and 2 by 1 [0-9a-f]{64}$')
+        self.assertRegex(lines[1], '^ours 2 by 1 [0-9a-f]{64}, theirs 2 by 1 [0-9a-f]{64}$')
         self.assertEqual(lines[2:], ['first differing cell: (0, 0): ours 020202, theirs 070707', 'cells that differ: 2',
                                      'their box: 0 0 1 0', 'by steps: 4 to 7: 2'])
         self.assertEqual(read_png(self.read('d.png')).pixels, b'\xff\x20\x20' * 2)
@@ -98,7 +98,7 @@ class Recordings(support.InFolder):
     def test_refused(self):
         """A difference before the refusal is found; else the refusal is the error."""
         self.assertEqual(self.compare(film(1, 99), film(1, 2)), (
-            2, 'psxgpu compare: ours: small: no 99 at event 7; 1 frames before that are equal\n'))
+            2, 'psxgpu compare: ours: small: no 99 at event 7; equal before that: 1 frame\n'))
         self.assertEqual(self.compare(film(1, 99), film(2, 2))[0], 1)
 
     def test_other_kinds(self):
