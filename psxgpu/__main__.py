@@ -1,4 +1,4 @@
-"""Runs the tools of this project: psxgpu NAME .. (in a checkout: python3 -m psxgpu NAME ..).
+"""Runs the tools of this project: psxgpu NAME .. (in a checkout: bin/psxgpu NAME ..).
 
 `psxgpu NAME --help` or `psxgpu help NAME` explains the arguments of a tool, `psxgpu help NAME --OPTION` lists the values
 of an option that has some, `psxgpu --version` prints the version.
@@ -10,8 +10,9 @@ import sys
 from types import ModuleType
 from typing import List, Optional
 
-TOOLS = ('corpus', 'packets', 'check', 'first', 'join', 'mend', 'from-log', 'from-dump', 'to-dump', 'to-exe', 'picture',
-         'film', 'textures', 'heat', 'compare', 'bisect', 'agree', 'audit', 'reduce', 'conform', 'selftest')
+TOOLS = ('corpus', 'packets', 'check', 'first', 'trim', 'join', 'mend', 'from-log', 'from-dump', 'to-dump', 'to-exe',
+         'picture', 'film', 'textures', 'heat', 'diff', 'compare', 'bisect', 'agree', 'audit', 'reduce', 'conform',
+         'selftest')
 
 
 def module_of(name: str) -> ModuleType:

@@ -8,7 +8,8 @@ from psxgpu.command import reading
 from psxgpu.errors import counted
 from psxgpu.packets.control import control
 from psxgpu.packets.fields import fields
-from psxgpu.packets.split import LOAD, Splitter
+from psxgpu.packets.grammar import LOAD
+from psxgpu.packets.split import Splitter
 from psxgpu.players import player
 from psxgpu.players.heal import Healer
 from psxgpu.players.steps import Cutter, Steps

@@ -6,6 +6,9 @@ import unittest
 
 from tests.systems import same_runs
 
+BUILT = os.path.join(same_runs.ROOT, 'out', 'wasi', 'psxgpu_tool.wasm')
 
+
+@unittest.skipUnless(os.path.exists(BUILT), 'not built: make wasi')
 class Wasi(same_runs.Same):
     player = os.path.join(same_runs.ROOT, 'systems', 'players', 'wasi')

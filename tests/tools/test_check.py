@@ -1,6 +1,6 @@
 """Reports on captures."""
 import json
-import unittest
+
 
 from tests import support
 from psxgpu import capture as c
