@@ -167,7 +167,3 @@ class EveryOutput(support.InFolder):
                     self.assertEqual((status, os.path.exists('twice.png')), (2, False), said)
                     status, said = self.ends(tool, [*rest, one, '-', other, '/dev/stdout'])
                     self.assertEqual(status, 2, said)
-
-
-if __name__ == '__main__':
-    unittest.main()
