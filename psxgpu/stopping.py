@@ -40,6 +40,9 @@ def session(words: List[str], **settings: Any) -> Iterator["subprocess.Popen[byt
     except BaseException:
         kill(child)
         child.wait()
+        for pipe in filter(None, (child.stdin, child.stdout, child.stderr)):
+            with contextlib.suppress(OSError):
+                pipe.close()
         raise
     finally:
         RUNNING.discard(child)

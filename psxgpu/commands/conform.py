@@ -45,7 +45,8 @@ def arguments(parser: argparse.ArgumentParser) -> None:
     """Adds the arguments."""
     parser.add_argument('tested', nargs='?', type=Command, metavar='PLAYER', help='a shell command: capture in, dump out')
     parser.add_argument('--only', action='append', type=Text, default=[], metavar='NAME', help='a chapter, or CHAPTER/TEST')
-    parser.add_argument('--page', type=Target, metavar='FILE', help='write a page with pictures: theirs, ours, the difference')
+    parser.add_argument('--page', type=Target, metavar='FILE',
+                        help='write a page with pictures: theirs, ours, the difference')
     parser.add_argument('--junit', type=Target, metavar='FILE', help='write JUnit XML')
     parser.add_argument('--json', type=Target, metavar='FILE', help='write the verdicts')
     parser.add_argument('--expect', type=Source, metavar='FILE', help='known failures: only another one fails the run')

@@ -24,7 +24,8 @@ from psxgpu.vram import WIDTH, cells_of, palette_of, shown, texels
 
 def arguments(parser: argparse.ArgumentParser) -> None:
     """Adds the arguments of this tool."""
-    parser.add_argument('source', type=Source, metavar='SOURCE', help='a dump, a picture or a capture; - is standard input')
+    parser.add_argument('source', type=Source, metavar='SOURCE',
+                        help='a dump, a picture or a capture; - is standard input')
     once(parser, 'picture', Picture, 'the picture to write; - is standard output')
     parser.add_argument('--at', type=decimal(0, 1 << 62), metavar='N', help='of a capture: after event N')
     parser.add_argument('--vram', action='store_true', help='of a capture: all of video memory')
@@ -80,4 +81,4 @@ def run(words: argparse.Namespace) -> None:
     if words.picture is None:
         raise ToolError('name the picture: psxgpu picture %s picture.png' % words.source)
     is_capture = words.at is not None or is_recording(words.source)
-    write_image(words.picture, of_recording(words, words.at) if is_capture else of_file(words))
+    write_image(words.picture, of_recording(words, words.at) if is_capture else of_file(words), [words.source])

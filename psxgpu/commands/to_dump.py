@@ -52,5 +52,6 @@ def run(words: argparse.Namespace) -> None:
             for piece in export:
                 target.write(piece)
     if export.left_out:
-        print('%s: left out: %s: reads of the status and control words' % (name, counted(export.left_out, 'event')),
+        print('%s: %s %s left out: reads of the status and control words'
+              % (name, counted(export.left_out, 'event'), 'is' if export.left_out == 1 else 'are'),
               file=sys.stderr)

@@ -19,7 +19,7 @@ from typing import IO, List, Optional, Tuple
 from psxgpu.command import ToolError, pour, title
 from psxgpu.corpus.scan import FLIP, MARK, copy_first, frames
 from psxgpu.files import plain
-from psxgpu.output import Packed, Source
+from psxgpu.output import Packed, Source, once
 from psxgpu.packing import packing
 from psxgpu.players import player
 from psxgpu.stream import SNAPSHOT
@@ -43,8 +43,7 @@ def arguments(parser: argparse.ArgumentParser) -> None:
     """Adds the arguments of this tool."""
     parser.add_argument('capture', type=Source, metavar='CAPTURE', help='a capture or a dump of a GPU; - is standard input')
     parser.add_argument('--frames', type=frame_range, required=True, metavar='A-B', help='the first and the last frame')
-    parser.add_argument('-o', '--output', type=Packed, default='-', metavar='OUTPUT',
-                        help='the snapshot to write; standard output if left out')
+    once(parser, 'output', Packed, 'the snapshot to write; standard output if left out', '-')
     parser.add_argument('--flips', action='store_true', help='a frame ends at each flip, even if there are marks')
     player.argument(parser)
 

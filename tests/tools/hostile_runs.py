@@ -4,6 +4,7 @@
 
 PLAYER names psxgpu_tool. Each run gets files of its own. Status: 0 nothing is wrong, 1 something is.
 """
+import argparse
 import gzip
 import os
 import random
@@ -39,7 +40,10 @@ def files():
 
 def word_for(r, action):
     """A word for an argument."""
-    kind = action.type('2') if callable(action.type) else ''
+    try:
+        kind = action.type('2') if callable(action.type) else ''
+    except argparse.ArgumentTypeError:
+        return r.choice((b'1-1', b'2-1', b'x'))
     name = type(kind).__name__
     if action.choices and r.random() < 0.8:
         return os.fsencode(str(r.choice(list(action.choices))))
@@ -105,8 +109,10 @@ def run(r, folder):
         child.kill()
         return 'does not end: %r' % words
     lost = kept(folder, before)
-    # mend without an output changes the recording, and join may append to a capture.
-    lost = [name for name in lost if words[0] not in (b'mend', b'join')]
+    # mend without an output changes the recording, and join may append to a capture. A file that is named only once may be
+    # named as an output.
+    named = [b'a.capture' if word == b'link' else word for word in words]
+    lost = [name for name in lost if words[0] not in (b'mend', b'join') and named.count(name) != 1]
     allowed = (0, 1, 2, 128 + number, -number) if number else (0, 1, 2)
     if b'Traceback' in said or b'Warning' in said or lost or child.returncode not in allowed:
         return '%r\n    status %d, lost %r\n    %s' % (words, child.returncode, lost, said.decode(errors='replace')[-1500:])

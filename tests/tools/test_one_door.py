@@ -119,7 +119,3 @@ class OneDoor(unittest.TestCase):
                      'import tempfile\ntempfile.TemporaryFile()', 'text.replace(a, b)'):
             with self.subTest(text):
                 self.assertEqual(writes(text), [])
-
-
-if __name__ == '__main__':
-    unittest.main()

@@ -157,7 +157,7 @@ class RoundTrip(support.InFolder):
         path = self.write('a.capture', c.Capture().stat(3).bytes())
         done = support.run_tool('to-dump', path, self.path('a.psxgpu'))
         self.assertEqual((done.returncode, done.stderr), (
-            0, '%s: left out: 3 events: reads of the status and control words\n' % path))
+            0, '%s: 3 events are left out: reads of the status and control words\n' % path))
         self.assertEqual(self.read('a.psxgpu')[:14], HEAD)
 
     def test_trouble(self):
