@@ -1,0 +1,220 @@
+"""Fills, copies, loads and stores: both halves of a word, large boxes, and what they do not look at."""
+from __future__ import annotations
+
+from typing import Iterable, List, Set, Tuple
+
+from psxgpu.capture import copy, draw_mode, drawing_area, drawing_offset, load, mask_setting, store, texture_page
+from psxgpu.conformance.chapters import copies, cuts, fills, loads, stores
+from psxgpu.conformance.packets import COPY, FILL, LOADS, STORES, Kind
+from psxgpu.conformance.suite import FORMULA, PSX_SPX, Draft, rgb
+
+COLOR = 0x1FAF57
+NOT_ASKED = ('offset in X', 'offset in Y', 'area: left', 'area: top', 'area: right', 'area: bottom')
+
+
+def marks(rules: Iterable[str], kinds: Iterable[Kind]) -> Set[Tuple[str, str]]:
+    """Returns cells of the table."""
+    some = list(kinds)
+    return {(rule, kind.name) for rule in rules for kind in some}
+
+
+def numbers(count: int) -> List[int]:
+    """Returns cells that differ, none of them 0."""
+    return [1 + 251 * at % 0xFFFE for at in range(count)]
+
+
+def words_of(cells: List[int]) -> List[int]:
+    """Returns what reads of these cells return."""
+    return [low | high << 16 for low, high in zip(cells[::2], cells[1::2])]
+
+
+def small_area(t: Draft) -> None:
+    """A drawing area inside of the boxes that are moved, and an offset."""
+    t.before(drawing_area(20, 18, 25, 20), drawing_offset(100, 50))
+
+
+# What a transfer does not look at.
+
+@fills.CHAPTER.test('A fill is not cut at any edge of the drawing area, nor moved by the drawing offset.',
+                    marks=marks(NOT_ASKED, [FILL]))
+def beyond_the_area(t: Draft) -> None:
+    small_area(t)
+    t.packet(fills.fill_words(16, 16, 16, 8))
+    t.box(16, 16, 16, 8, fills.CELL)
+
+
+@fills.CHAPTER.test('A fill is neither dithered nor blended.', marks=marks(('dither', 'opaque'), [FILL]))
+def ignores_the_draw_mode(t: Draft) -> None:
+    t.before(load(0, 0, 16, 4, [0x1234] * 64), draw_mode(texture_page(0, 0, 0, 1), dither=True))
+    t.packet(0x02474747, 0, 4 << 16 | 16)
+    t.box(0, 0, 16, 4, rgb(0x474747))
+
+
+@copies.CHAPTER.test('A copy is not cut at any edge of the drawing area, nor moved by the drawing offset.', worked=FORMULA,
+                     marks=marks(NOT_ASKED, [COPY]))
+def copied_beyond_the_area(t: Draft) -> None:
+    cells = numbers(128)
+    t.given(400, 100, 16, cells)
+    small_area(t)
+    t.packet(copy(400, 100, 16, 16, 16, 8))
+    for y in range(8):
+        t.row(16, 16 + y, cells[16 * y:16 * y + 16])
+
+
+@loads.CHAPTER.test('A load is not cut at any edge of the drawing area, nor moved by the drawing offset.', worked=FORMULA,
+                    marks=marks(NOT_ASKED, LOADS))
+def beyond_the_area_too(t: Draft) -> None:
+    small_area(t)
+    t.packet(load(16, 16, 16, 8, numbers(128)))
+    for y in range(8):
+        t.row(16, 16 + y, numbers(128)[16 * y:16 * y + 16])
+
+
+@stores.CHAPTER.test('A store is not cut at any edge of the drawing area, nor moved by the drawing offset.', worked=FORMULA,
+                     marks=marks(NOT_ASKED, STORES))
+def ignores_area_and_offset(t: Draft) -> None:
+    cells = numbers(128)
+    t.given(16, 16, 16, cells)
+    small_area(t)
+    t.packet(store(16, 16, 16, 8))
+    t.read(*words_of(cells))
+
+
+# Each bit, in the low and in the high half of a word.
+
+BITS = [1 << at // 2 for at in range(32)]
+
+
+@copies.CHAPTER.test('A copy moves each of the sixteen bits.', worked=FORMULA, marks=marks(['all bits of a cell'], [COPY]))
+def each_bit(t: Draft) -> None:
+    t.given(0, 0, 32, BITS)
+    t.packet(copy(0, 0, 64, 9, 32, 1))
+    t.row(64, 9, BITS)
+
+
+@loads.CHAPTER.test('A load moves each of the sixteen bits, in the low and in the high half of a word.', worked=FORMULA,
+                    marks=marks(['all bits of a cell'], LOADS))
+def each_bit_of_both_halves(t: Draft) -> None:
+    t.packet(load(0, 0, 32, 1, BITS))
+    t.row(0, 0, BITS)
+
+
+@stores.CHAPTER.test('A store moves each of the sixteen bits, in the low and in the high half of a word.', worked=FORMULA,
+                     marks=marks(['all bits of a cell'], STORES))
+def each_bit_of_a_word(t: Draft) -> None:
+    t.given(0, 0, 32, BITS)
+    t.packet(store(0, 0, 32, 1))
+    t.read(*words_of(BITS))
+
+
+# The mask setting in both halves.
+
+@loads.CHAPTER.test('A load sets bit 15 of both halves of a word.', section='GP0(E6h) Mask Bit Setting',
+                    marks=marks(['mask set'], LOADS))
+def forces_both_halves(t: Draft) -> None:
+    t.before(mask_setting(force=True))
+    t.packet(load(2, 2, 4, 1, [0x0001, 0x0002, 0x8003, 0x8004]))
+    t.row(2, 2, [0x8001, 0x8002, 0x8003, 0x8004])
+
+
+@loads.CHAPTER.test('A load leaves a cell with bit 15, by the low and by the high half of a word.',
+                    section='GP0(E6h) Mask Bit Setting', marks=marks(['mask kept'], LOADS))
+def keeps_both_halves(t: Draft) -> None:
+    t.given(2, 2, 4, [0x8001, 0x0002, 0x0003, 0x8004])
+    t.before(mask_setting(keep=True))
+    t.packet(load(2, 2, 4, 1, [0x1111, 0x2222, 0x3333, 0x4444]))
+    t.row(2, 2, [0x8001, 0x2222, 0x3333, 0x8004])
+
+
+# The edges, with rows of an odd width: each cell of a row is once in a low and once in a high half.
+
+@loads.CHAPTER.test('A load over both edges continues at 0, in the low and in the high half of a word.', worked=FORMULA,
+                    marks=marks(['wrap in X', 'wrap in Y'], LOADS))
+def wraps_both_halves(t: Draft) -> None:
+    cells = numbers(20)
+    t.packet(load(1022, 510, 5, 4, cells))
+    for y in range(4):
+        t.row(1022, (510 + y) % 512, cells[5 * y:5 * y + 5])
+
+
+@stores.CHAPTER.test('A store over both edges continues at 0, in the low and in the high half of a word.', worked=FORMULA,
+                     marks=marks(['wrap in X', 'wrap in Y'], STORES))
+def wraps_both_ways(t: Draft) -> None:
+    cells = numbers(20)
+    for y in range(4):
+        row = cells[5 * y:5 * y + 5]
+        t.given(1022, (510 + y) % 512, 2, row[:2])
+        t.given(0, (510 + y) % 512, 3, row[2:])
+    t.packet(store(1022, 510, 5, 4))
+    t.read(*words_of(cells))
+
+
+# Large boxes.
+
+@fills.CHAPTER.test('A fill of 1024 by 511 leaves one row, whatever the drawing area is.', marks=marks(['large size'], [FILL]))
+def nearly_all(t: Draft) -> None:
+    small_area(t)
+    t.packet(fills.fill_words(0, 0, 0x3FF, 511))
+    t.box(0, 0, 1024, 511, fills.CELL)
+
+
+@copies.CHAPTER.test('A copy of more than 512 columns and of more than 256 rows moves all of its cells.', worked=FORMULA,
+                     marks=marks(['large size'], [COPY]))
+def more_than_half(t: Draft) -> None:
+    row, column = numbers(600), numbers(300)
+    t.given(0, 0, 600, row)
+    t.given(1000, 100, 1, column)
+    t.packet(copy(0, 0, 100, 2, 600, 1), copy(1000, 100, 1010, 90, 1, 300))
+    t.row(100, 2, row)
+    for y in range(300):
+        t.cell(1010, 90 + y, column[y])
+
+
+@loads.CHAPTER.test('A load of more than 512 columns and one of more than 256 rows move all of their cells.', worked=FORMULA,
+                    marks=marks(['large size'], LOADS))
+def many_cells(t: Draft) -> None:
+    for x, y, width, height in ((100, 0, 600, 5), (1000, 100, 5, 300)):
+        cells = numbers(width * height)
+        t.packet(load(x, y, width, height, cells))
+        for down in range(height):
+            t.row(x, y + down, cells[width * down:width * down + width])
+
+
+@stores.CHAPTER.test('A store of more than 512 columns and one of more than 256 rows read all of their cells.',
+                     worked=FORMULA, marks=marks(['large size'], STORES))
+def many_cells_read(t: Draft) -> None:
+    for x, y, width, height in ((100, 0, 600, 3), (1000, 100, 3, 300)):
+        cells = numbers(width * height)
+        t.given(x, y, width, cells)
+        t.packet(store(x, y, width, height))
+        t.read(*words_of(cells))
+
+
+# Control words.
+
+CONTROL = 0x02000000, 0x03000000, 0x04000000, 0x05000000, 0x06C60260, 0x07040010, 0x08000001
+
+
+def between(t: Draft, words: List[int]) -> None:
+    """Writes words, with control words between them."""
+    for at, word in enumerate(words):
+        t.packet(word)
+        if at < len(words) - 1:
+            t.gp1(CONTROL)
+
+
+@cuts.CHAPTER.test('GP1(02h) to GP1(08h) between its words leave a transfer whole, and between its reads a store.',
+                   PSX_SPX, FORMULA, marks=marks(['control words between'], [FILL, COPY, *LOADS, *STORES]))
+def control_words_in_transfers(t: Draft) -> None:
+    cells = numbers(9)
+    between(t, load(3, 3, 3, 3, cells))
+    between(t, copy(3, 3, 33, 3, 3, 3))
+    between(t, fills.fill_words(64, 3, 16, 3))
+    for y in range(3):
+        for x in (3, 33):
+            t.row(x, 3 + y, cells[3 * y:3 * y + 3])
+    t.box(64, 3, 16, 3, fills.CELL)
+    between(t, store(3, 3, 3, 2))
+    for word in words_of(cells[:6]):
+        t.gp1(CONTROL)
+        t.read(word)
