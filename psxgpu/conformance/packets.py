@@ -2,7 +2,7 @@
 from __future__ import annotations
 
 from dataclasses import dataclass
-from typing import Iterator, List, Tuple
+from typing import FrozenSet, Iterable, Iterator, List, Tuple
 
 from psxgpu.capture import line, polygon, texcoord, vertex
 
@@ -135,3 +135,8 @@ FILL, COPY = Kind(TRANSFERS, 'fill'), Kind(TRANSFERS, 'copy')
 LOADS = (Kind(TRANSFERS, 'load, low half'), Kind(TRANSFERS, 'load, high half'))
 STORES = (Kind(TRANSFERS, 'store, low half'), Kind(TRANSFERS, 'store, high half'))
 KINDS = (*(kind for drawer in DRAWERS for kind in drawer.kinds), FILL, COPY, *LOADS, *STORES)
+
+
+def marks(rules: Iterable[str], *kinds: Kind) -> FrozenSet[Tuple[str, str]]:
+    """Returns cells of the table: these rules in these kinds of packet."""
+    return frozenset((rule, kind.name) for rule in rules for kind in kinds)

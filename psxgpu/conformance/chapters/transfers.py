@@ -1,21 +1,15 @@
 """Fills, copies, loads and stores: both halves of a word, large boxes, and what they do not look at."""
 from __future__ import annotations
 
-from typing import Iterable, List, Set, Tuple
+from typing import List
 
 from psxgpu.capture import copy, draw_mode, drawing_area, drawing_offset, load, mask_setting, store, texture_page
 from psxgpu.conformance.chapters import copies, cuts, fills, loads, stores
-from psxgpu.conformance.packets import COPY, FILL, LOADS, STORES, Kind
+from psxgpu.conformance.packets import COPY, FILL, LOADS, STORES, marks
 from psxgpu.conformance.suite import FORMULA, PSX_SPX, Draft, rgb
 
 COLOR = 0x1FAF57
 NOT_ASKED = ('offset in X', 'offset in Y', 'area: left', 'area: top', 'area: right', 'area: bottom')
-
-
-def marks(rules: Iterable[str], kinds: Iterable[Kind]) -> Set[Tuple[str, str]]:
-    """Returns cells of the table."""
-    some = list(kinds)
-    return {(rule, kind.name) for rule in rules for kind in some}
 
 
 def numbers(count: int) -> List[int]:
@@ -36,14 +30,14 @@ def small_area(t: Draft) -> None:
 # What a transfer does not look at.
 
 @fills.CHAPTER.test('A fill is not cut at any edge of the drawing area, nor moved by the drawing offset.',
-                    marks=marks(NOT_ASKED, [FILL]))
+                    marks=marks(NOT_ASKED, FILL))
 def beyond_the_area(t: Draft) -> None:
     small_area(t)
     t.packet(fills.fill_words(16, 16, 16, 8))
     t.box(16, 16, 16, 8, fills.CELL)
 
 
-@fills.CHAPTER.test('A fill is neither dithered nor blended.', marks=marks(('dither', 'opaque'), [FILL]))
+@fills.CHAPTER.test('A fill is neither dithered nor blended.', marks=marks(('dither', 'opaque'), FILL))
 def ignores_the_draw_mode(t: Draft) -> None:
     t.before(load(0, 0, 16, 4, [0x1234] * 64), draw_mode(texture_page(0, 0, 0, 1), dither=True))
     t.packet(0x02474747, 0, 4 << 16 | 16)
@@ -51,7 +45,7 @@ def ignores_the_draw_mode(t: Draft) -> None:
 
 
 @copies.CHAPTER.test('A copy is not cut at any edge of the drawing area, nor moved by the drawing offset.', worked=FORMULA,
-                     marks=marks(NOT_ASKED, [COPY]))
+                     marks=marks(NOT_ASKED, COPY))
 def copied_beyond_the_area(t: Draft) -> None:
     cells = numbers(128)
     t.given(400, 100, 16, cells)
@@ -62,7 +56,7 @@ def copied_beyond_the_area(t: Draft) -> None:
 
 
 @loads.CHAPTER.test('A load is not cut at any edge of the drawing area, nor moved by the drawing offset.', worked=FORMULA,
-                    marks=marks(NOT_ASKED, LOADS))
+                    marks=marks(NOT_ASKED, *LOADS))
 def beyond_the_area_too(t: Draft) -> None:
     small_area(t)
     t.packet(load(16, 16, 16, 8, numbers(128)))
@@ -71,7 +65,7 @@ def beyond_the_area_too(t: Draft) -> None:
 
 
 @stores.CHAPTER.test('A store is not cut at any edge of the drawing area, nor moved by the drawing offset.', worked=FORMULA,
-                     marks=marks(NOT_ASKED, STORES))
+                     marks=marks(NOT_ASKED, *STORES))
 def ignores_area_and_offset(t: Draft) -> None:
     cells = numbers(128)
     t.given(16, 16, 16, cells)
@@ -85,7 +79,7 @@ def ignores_area_and_offset(t: Draft) -> None:
 BITS = [1 << at // 2 for at in range(32)]
 
 
-@copies.CHAPTER.test('A copy moves each of the sixteen bits.', worked=FORMULA, marks=marks(['all bits of a cell'], [COPY]))
+@copies.CHAPTER.test('A copy moves each of the sixteen bits.', worked=FORMULA, marks=marks(['all bits of a cell'], COPY))
 def each_bit(t: Draft) -> None:
     t.given(0, 0, 32, BITS)
     t.packet(copy(0, 0, 64, 9, 32, 1))
@@ -93,14 +87,14 @@ def each_bit(t: Draft) -> None:
 
 
 @loads.CHAPTER.test('A load moves each of the sixteen bits, in the low and in the high half of a word.', worked=FORMULA,
-                    marks=marks(['all bits of a cell'], LOADS))
+                    marks=marks(['all bits of a cell'], *LOADS))
 def each_bit_of_both_halves(t: Draft) -> None:
     t.packet(load(0, 0, 32, 1, BITS))
     t.row(0, 0, BITS)
 
 
 @stores.CHAPTER.test('A store moves each of the sixteen bits, in the low and in the high half of a word.', worked=FORMULA,
-                     marks=marks(['all bits of a cell'], STORES))
+                     marks=marks(['all bits of a cell'], *STORES))
 def each_bit_of_a_word(t: Draft) -> None:
     t.given(0, 0, 32, BITS)
     t.packet(store(0, 0, 32, 1))
@@ -110,7 +104,7 @@ def each_bit_of_a_word(t: Draft) -> None:
 # The mask setting in both halves.
 
 @loads.CHAPTER.test('A load sets bit 15 of both halves of a word.', section='GP0(E6h) Mask Bit Setting',
-                    marks=marks(['mask set'], LOADS))
+                    marks=marks(['mask set'], *LOADS))
 def forces_both_halves(t: Draft) -> None:
     t.before(mask_setting(force=True))
     t.packet(load(2, 2, 4, 1, [0x0001, 0x0002, 0x8003, 0x8004]))
@@ -118,7 +112,7 @@ def forces_both_halves(t: Draft) -> None:
 
 
 @loads.CHAPTER.test('A load leaves a cell with bit 15, by the low and by the high half of a word.',
-                    section='GP0(E6h) Mask Bit Setting', marks=marks(['mask kept'], LOADS))
+                    section='GP0(E6h) Mask Bit Setting', marks=marks(['mask kept'], *LOADS))
 def keeps_both_halves(t: Draft) -> None:
     t.given(2, 2, 4, [0x8001, 0x0002, 0x0003, 0x8004])
     t.before(mask_setting(keep=True))
@@ -129,7 +123,7 @@ def keeps_both_halves(t: Draft) -> None:
 # The edges, with rows of an odd width: each cell of a row is once in a low and once in a high half.
 
 @loads.CHAPTER.test('A load over both edges continues at 0, in the low and in the high half of a word.', worked=FORMULA,
-                    marks=marks(['wrap in X', 'wrap in Y'], LOADS))
+                    marks=marks(['wrap in X', 'wrap in Y'], *LOADS))
 def wraps_both_halves(t: Draft) -> None:
     cells = numbers(20)
     t.packet(load(1022, 510, 5, 4, cells))
@@ -138,7 +132,7 @@ def wraps_both_halves(t: Draft) -> None:
 
 
 @stores.CHAPTER.test('A store over both edges continues at 0, in the low and in the high half of a word.', worked=FORMULA,
-                     marks=marks(['wrap in X', 'wrap in Y'], STORES))
+                     marks=marks(['wrap in X', 'wrap in Y'], *STORES))
 def wraps_both_ways(t: Draft) -> None:
     cells = numbers(20)
     for y in range(4):
@@ -151,7 +145,7 @@ def wraps_both_ways(t: Draft) -> None:
 
 # Large boxes.
 
-@fills.CHAPTER.test('A fill of 1024 by 511 leaves one row, whatever the drawing area is.', marks=marks(['large size'], [FILL]))
+@fills.CHAPTER.test('A fill of 1024 by 511 leaves one row, whatever the drawing area is.', marks=marks(['large size'], FILL))
 def nearly_all(t: Draft) -> None:
     small_area(t)
     t.packet(fills.fill_words(0, 0, 0x3FF, 511))
@@ -159,7 +153,7 @@ def nearly_all(t: Draft) -> None:
 
 
 @copies.CHAPTER.test('A copy of more than 512 columns and of more than 256 rows moves all of its cells.', worked=FORMULA,
-                     marks=marks(['large size'], [COPY]))
+                     marks=marks(['large size'], COPY))
 def more_than_half(t: Draft) -> None:
     row, column = numbers(600), numbers(300)
     t.given(0, 0, 600, row)
@@ -171,7 +165,7 @@ def more_than_half(t: Draft) -> None:
 
 
 @loads.CHAPTER.test('A load of more than 512 columns and one of more than 256 rows move all of their cells.', worked=FORMULA,
-                    marks=marks(['large size'], LOADS))
+                    marks=marks(['large size'], *LOADS))
 def many_cells(t: Draft) -> None:
     for x, y, width, height in ((100, 0, 600, 5), (1000, 100, 5, 300)):
         cells = numbers(width * height)
@@ -181,7 +175,7 @@ def many_cells(t: Draft) -> None:
 
 
 @stores.CHAPTER.test('A store of more than 512 columns and one of more than 256 rows read all of their cells.',
-                     worked=FORMULA, marks=marks(['large size'], STORES))
+                     worked=FORMULA, marks=marks(['large size'], *STORES))
 def many_cells_read(t: Draft) -> None:
     for x, y, width, height in ((100, 0, 600, 3), (1000, 100, 3, 300)):
         cells = numbers(width * height)
@@ -204,7 +198,7 @@ def between(t: Draft, words: List[int]) -> None:
 
 
 @cuts.CHAPTER.test('GP1(02h) to GP1(08h) between its words leave a transfer whole, and between its reads a store.',
-                   PSX_SPX, FORMULA, marks=marks(['control words between'], [FILL, COPY, *LOADS, *STORES]))
+                   PSX_SPX, FORMULA, marks=marks(['control words between'], FILL, COPY, *LOADS, *STORES))
 def control_words_in_transfers(t: Draft) -> None:
     cells = numbers(9)
     between(t, load(3, 3, 3, 3, cells))
