@@ -5,7 +5,7 @@ each rule: it returns the reason for a kind of packet, or an empty text if there
 """
 from __future__ import annotations
 
-from typing import Callable, Dict, Iterable, Iterator, List, Tuple
+from typing import Callable, Dict, Iterable, List, Sequence, Tuple
 
 from psxgpu.conformance.packets import FAMILIES, KINDS, LINES, POLYGONS, RECTANGLES, TRANSFERS, Kind
 from psxgpu.conformance.suite import Test
@@ -159,28 +159,45 @@ def summary(tests: Iterable[Test]) -> str:
         len(REASONS), len(KINDS), len(REASONS) * len(KINDS), len(cells), len(REASONS) * len(KINDS) - len(cells))
 
 
-def groups(rule: str, cells: Cells) -> Iterator[str]:
-    """Yields the field of each family: what the cells have, each with the kinds that have it unless all have the same."""
-    for family in FAMILIES:
-        found: Dict[str, List[str]] = {}
-        for kind in KINDS:
-            if kind.family == family:
-                names = cells.get((rule, kind.name))
-                text = ' '.join('`%s`' % name for name in names) if names else REASONS[rule](kind)
-                found.setdefault(text, []).append(kind.name)
-        yield '; '.join(text if len(found) == 1 else '%s: %s' % (short(names), text) for text, names in found.items())
+def looks_named(looks: Sequence[str], kinds: Sequence[Kind]) -> str:
+    """Returns some looks of a family: by their texture if that is what they have in common."""
+    for has_texture, text in ((True, 'with a texture'), (False, 'without a texture')):
+        if set(looks) == {kind.look for kind in kinds if kind.is_textured == has_texture}:
+            return text
+    return ', '.join(looks)
 
 
-def short(names: List[str]) -> str:
-    """Returns the names of kinds. Those of one look or of one shape are said once."""
-    shapes: Dict[str, List[str]] = {}
-    for name in names:
-        shape, _, look = name.rpartition(', ') if name.rpartition(', ')[2] in LOOK_NAMES else (name, '', '')
-        shapes.setdefault(look, []).append(shape)
-    looks: Dict[Tuple[str, ...], List[str]] = {}
-    for look, some in shapes.items():
-        looks.setdefault(tuple(some), []).append(look)
-    most = max(len(some) for some in looks)
-    return ', '.join(' and '.join(filter(None, [
-        '' if len(some) == most and all(kinds) else ', '.join(some)])) + (
-            ' ' if len(some) < most else '') + ', '.join(filter(None, kinds)) for some, kinds in looks.items())
+def named(kinds: Sequence[Kind], all_of_them: Sequence[Kind]) -> str:
+    """Returns what some kinds of a family have in common: their shapes and their looks, each only if not all are there."""
+    shapes_of: Dict[str, List[str]] = {}
+    for kind in kinds:
+        shapes_of.setdefault(kind.look, []).append(kind.shape)
+    looks_of: Dict[Tuple[str, ...], List[str]] = {}
+    for look, shapes in shapes_of.items():
+        looks_of.setdefault(tuple(shapes), []).append(look)
+    every_shape, every_look = {kind.shape for kind in all_of_them}, {kind.look for kind in all_of_them}
+    parts = []
+    for some, looks in looks_of.items():
+        names = [', '.join(some)] if set(some) != every_shape else []
+        names += [looks_named(looks, all_of_them)] if set(looks) != every_look else []
+        parts.append(' '.join(names))
+    return ' and '.join(parts).replace('load, low half, load, high half', 'load').replace('store, low half, store, high half',
+                                                                                          'store')
+
+
+def field(rule: str, family: str, cells: Cells) -> str:
+    """Returns what the cells of a row have in a family, each text with the kinds that have it unless all have the same."""
+    kinds = [kind for kind in KINDS if kind.family == family]
+    found: Dict[str, List[Kind]] = {}
+    for kind in kinds:
+        names = cells.get((rule, kind.name), [])
+        found.setdefault(' '.join('`%s`' % name for name in names) or REASONS[rule](kind), []).append(kind)
+    return '; '.join(text if len(found) == 1 else '%s: %s' % (named(some, kinds), text) for text, some in found.items())
+
+
+def markdown(tests: Iterable[Test]) -> str:
+    """Returns the table: a line for each rule, a field for each family of packets."""
+    cells = tested(tests)
+    rows = [['rule', *FAMILIES], ['---'] * (1 + len(FAMILIES))]
+    rows += [[rule, *(field(rule, family, cells) for family in FAMILIES)] for rule in REASONS]
+    return '\n'.join('| %s |' % ' | '.join(row) for row in rows)

@@ -9,6 +9,7 @@ from psxgpu.corpus.play import Player
 from psxgpu.corpus.scan import FLIP, copy_first, frames
 from psxgpu.files import plain
 from psxgpu.output import refuse_inputs
+from psxgpu.stream import SNAPSHOT
 
 
 def nearest(events: Sequence[int], want: int) -> int:
@@ -27,6 +28,12 @@ def places(path: str, parts: int, opcode: int) -> List[int]:
     return chosen + [last]
 
 
+def is_snapshot(path: str) -> bool:
+    """Returns whether a file begins as a snapshot does."""
+    with open(path, 'rb') as file:
+        return file.read(len(SNAPSHOT)) == SNAPSHOT
+
+
 def write_part(path: str, name: str, events: Tuple[int, int], target: str, player: Player) -> None:
     """Writes the events after the first of `events` up to the second. `name` is what messages call the recording."""
     before, last = events
@@ -43,6 +50,8 @@ def write_part(path: str, name: str, events: Tuple[int, int], target: str, playe
 def split(path: str, parts: int, folder: str, player: Player, opcode: int = FLIP) -> None:
     """Writes the parts of a recording into a folder, and prints their names."""
     with plain(path) as whole:
+        if is_snapshot(whole):
+            raise Trouble('%s: a snapshot: `split` takes a capture' % path)
         try:
             ends = places(whole, parts, opcode)
         except ValueError as error:

@@ -73,6 +73,8 @@ def over(name: str, side: str, rule: str, x: int, y: int, families: Sequence[str
                 place = x or PITCH * (1 + at), y or PITCH * (1 + at)
                 t.packet(words(drawer, *place))
                 shows(t, drawer, *place)
+                if name in ('right', 'bottom'):     # that the last column and row are in the drawing area is an own rule
+                    t.ignore(*((1023, place[1], 1, drawer.height) if x else (place[0], 511, drawer.width, 1)))
         area.CHAPTER.add('%s-of-%s' % (name, family), '%s: what is %s is left out, and the rest keeps its texels.' % (
             family.capitalize(), side), PSX_SPX, FORMULA, write, None,
             frozenset((rule, kind.name) for drawer in some for kind in drawer.kinds))
@@ -80,8 +82,8 @@ def over(name: str, side: str, rule: str, x: int, y: int, families: Sequence[str
 
 over('left', 'left of video memory', 'left of X 0', -3, 0)
 over('top', 'above video memory', 'above Y 0', 0, -2)
-over('right', 'right of video memory', 'right of X 1023', 1021, 0, (RECTANGLES,))
-over('bottom', 'below video memory', 'below Y 511', 0, 510)
+over('right', 'right of video memory', 'right of X 1023', 1020, 0, (RECTANGLES,))
+over('bottom', 'below video memory', 'below Y 511', 0, 509)
 
 
 def with_high_bits(drawer: Drawer, packet: List[int]) -> List[int]:

@@ -59,7 +59,7 @@ def height_0_is_512(t: Draft) -> None:
     t.cell(9, 511, 0x2222)
 
 
-@CHAPTER.test('A copy one cell to the left moves each cell once.')
+@CHAPTER.test('A copy one cell to the left moves each cell once.', OWN)
 def overlap_left(t: Draft) -> None:
     t.given(10, 4, 6, SIX)
     t.packet(copy(11, 4, 10, 4, 5, 1))
@@ -73,7 +73,7 @@ def overlap_right(t: Draft) -> None:
     t.row(10, 4, [0x1111] * 6)
 
 
-@CHAPTER.test('A copy one row up moves each row once.')
+@CHAPTER.test('A copy one row up moves each row once.', OWN)
 def overlap_up(t: Draft) -> None:
     t.given(10, 4, 2, SIX)
     t.packet(copy(10, 5, 10, 4, 2, 2))
