@@ -40,9 +40,9 @@ run: $(PLAYER)
 	@echo "two-fills.ppm, two-fills.png: a blue screen of 320 by 240 with a red square in it"
 
 $(BUILT)/psxgpu_tool: $(SOURCES)
-	@python3 packaging/build_progress.py $(JOBS)
+	@python3 -m proving.progress $(JOBS)
 	cd crates/psxgpu_tool && \
-	  rt run --jobs $$(python3 ../../packaging/build_plan.py psxgpu_tool $(JOBS)) -- play < stdin > /dev/null
+	  rt run --jobs $$(cd ../.. && python3 -m proving.plan psxgpu_tool $(JOBS)) -- play < stdin > /dev/null
 
 # The program for one processor. The proofs are those of the usual build, and its program stays.
 $(BUILT)/%/psxgpu_tool: $(BUILT)/psxgpu_tool
@@ -56,15 +56,15 @@ test:
 	rt ci
 
 bench: $(PLAYER)
-	python3 bench/run.py
+	python3 -m bench.run
 
 lib: $(OUT)/libpsxgpu.a $(OUT)/$(SONAME)
 
 lib-v3: $(NEWER)/$(SONAME)
 
 $(PROVED): $(SOURCES)
-	@python3 packaging/build_progress.py --top psxgpu_c $(JOBS)
-	cd crates/psxgpu_c && rt lib --jobs $$(python3 ../../packaging/build_plan.py psxgpu_c $(JOBS))
+	@python3 -m proving.progress --top psxgpu_c $(JOBS)
+	cd crates/psxgpu_c && rt lib --jobs $$(cd ../.. && python3 -m proving.plan psxgpu_c $(JOBS))
 
 $(OUT)/%.o: c/%.c c/psxgpu.h
 	mkdir -p $(OUT)
@@ -102,25 +102,25 @@ plugin: out/libpsxgpu.a
 web: web/out/index.html web/out/conformance.html viewer
 
 web/out/psxgpu.wasm: out/wasi/psxgpu_c.o web/build.py $(WASM) c/text.c c/psxgpu.h
-	python3 web/build.py module
+	python3 -m web.build module
 
 web/out/index.html: web/out/psxgpu.wasm $(wildcard web/*.js) web/index.html
-	python3 web/build.py page
+	python3 -m web.build page
 
-web/out/conformance.html: web/out/index.html $(wildcard web/conformance/*) $(wildcard psxgpu/conformance/*.py) \
+web/out/conformance.html: web/out/index.html $(wildcard web/suite_page/*) $(wildcard psxgpu/conformance/*.py) \
   $(wildcard psxgpu/conformance/chapters/*.py)
-	python3 web/conformance/pack.py
+	python3 -m web.suite_page.pack
 
 viewer: web/viewer.html
 
-web/viewer.html: web/out/index.html $(wildcard web/viewer/*)
-	python3 web/viewer/pack.py
+web/viewer.html: web/out/index.html $(wildcard web/viewer/* web/viewer/*/*.js)
+	python3 -m web.viewer.pack
 
 install: $(PLAYER) $(if $(wildcard $(OUT)/libpsxgpu.a),install-library)
 	install -d $(BIN) $(MAN)
 	install -m 755 $(PLAYER) $(BIN)/psxgpu_tool
 	install -m 644 man/psxgpu_tool.1 $(MAN)/psxgpu_tool.1
-	packaging/install "$(DESTDIR)" "$(PREFIX)" "$(PYTHON)"
+	packages/install "$(DESTDIR)" "$(PREFIX)" "$(PYTHON)"
 
 install-library:
 	install -d $(INCLUDE) $(LIB)/pkgconfig
@@ -136,7 +136,7 @@ uninstall:
 	  $(LIB)/$(NEWER:$(OUT)/%=%)/$(SONAME) $(LIB)/pkgconfig/psxgpu.pc $(MAN)/psxgpu_tool.1
 	[ ! -d $(LIB)/$(NEWER:$(OUT)/%=%) ] || \
 	  (cd $(LIB) && rmdir -p --ignore-fail-on-non-empty $(NEWER:$(OUT)/%=%))
-	packaging/install --remove "$(DESTDIR)" "$(PREFIX)" "$(PYTHON)"
+	packages/install --remove "$(DESTDIR)" "$(PREFIX)" "$(PYTHON)"
 
 dist deb: $(PLAYER) lib $(if $(filter x86_64,$(ARCH)),lib-v3)
-	PLAYER=$(abspath $(PLAYER)) python3 packaging/packages.py $@
+	PLAYER=$(abspath $(PLAYER)) python3 -m packages.build $@

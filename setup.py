@@ -1,5 +1,5 @@
 """Adds the library to the package, where it is built (`make lib`): then `psxgpu.machine` needs nothing else, and the
-wheel is one for this machine's kind. PSXGPU_WHEEL_LIBRARY names the library of another system (packaging/wheels.py). The
+wheel is one for this machine's kind. PSXGPU_WHEEL_LIBRARY names the library of another system (packages/wheels.py). The
 rest is in pyproject.toml."""
 import os
 import shutil

@@ -54,8 +54,7 @@ def best_of(browser, rotations):
 
 def browser_seconds(workloads, scale, rotations):
     """Of each workload the processor time that the module takes in Chromium, the best of the rotations."""
-    sys.path.append(os.path.join(ROOT, 'web'))
-    from browser import Browser, chromium
+    from tests.web.browser import Browser, chromium
     if not chromium():
         sys.exit('bench: no Chromium')
     subprocess.run(['make', '-s', 'web'], cwd=ROOT, check=True)

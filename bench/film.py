@@ -1,7 +1,7 @@
 #!/usr/bin/env python3
 """Measures the time for a film and for the history of a cell, compared with the dump.
 
-    python3 bench/film.py [--rotations N] [--seconds N] [--ours PROGRAM] [CAPTURE ..]
+    python3 -m bench.film [--rotations N] [--seconds N] [--ours PROGRAM] [CAPTURE ..]
 
 Without a capture it generates N seconds of the frames of bench/workloads.py, thirty a second, each drawn and then
 displayed at 320 by 240. Each command plays the capture in turn. The table has the processor time, the best of the
@@ -10,15 +10,13 @@ rotations.
 import argparse
 import os
 import subprocess
-import sys
 import tempfile
 
 ROOT = os.path.dirname(os.path.dirname(os.path.abspath(__file__)))
-sys.path.insert(0, ROOT)
 
-from psxgpu.capture import Capture, display_start, screen  # noqa: E402
-from run import OURS, seconds  # noqa: E402
-from workloads import TEXTURES, Numbers, frame  # noqa: E402
+from psxgpu.capture import Capture, display_start, screen
+from bench.run import OURS, seconds
+from bench.workloads import TEXTURES, Numbers, frame
 
 COMMANDS = (['vram'], ['frames'], ['sums'], ['pixel', '100', '100'])
 

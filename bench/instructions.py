@@ -1,7 +1,7 @@
 #!/usr/bin/env python3
 """Counts the instructions of the program for Linux on x86-64 and on arm64, by qemu.
 
-    python3 bench/instructions.py [--scale F] [--only WORD]
+    python3 -m bench.instructions [--scale F] [--only WORD]
 
 Prints a table: for each workload of bench/workloads.py the instructions of a piece of work, without those of a capture
 that has only what is before the work, and the ratio. Both programs have to be built: `make run`, `make ARCH=aarch64
@@ -16,10 +16,9 @@ import tempfile
 from typing import List
 
 ROOT = os.path.dirname(os.path.dirname(os.path.abspath(__file__)))
-sys.path.insert(0, ROOT)
 
-from run import OURS, prepare  # noqa: E402
-from workloads import WORKLOADS  # noqa: E402
+from bench.run import OURS, prepare
+from bench.workloads import WORKLOADS
 
 PROGRAMS = [(['qemu-x86_64', '-cpu', 'max'], OURS),
             (['qemu-aarch64', '-L', '/usr/aarch64-linux-gnu'], 'out/aarch64/psxgpu_tool')]

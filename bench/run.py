@@ -1,7 +1,7 @@
 #!/usr/bin/env python3
 """Measures players on the same captures.
 
-    python3 bench/run.py [--rotations N] [--scale F] [--only WORD] [--library] [--browser] [NAME=PROGRAM ..]
+    python3 -m bench.run [--rotations N] [--scale F] [--only WORD] [--library] [--browser] [NAME=PROGRAM ..]
 
 Builds the program of this repository, makes the captures of bench/workloads.py, plays each as `PROGRAM vram < capture`
 with every player in turn, and prints a table: the speed of each, and the ratio of ours to the fastest of the others. It
@@ -19,11 +19,10 @@ import sys
 import tempfile
 
 ROOT = os.path.dirname(os.path.dirname(os.path.abspath(__file__)))
-sys.path.insert(0, ROOT)
 
-from bindings import browser_seconds, library_players  # noqa: E402
-from psxgpu.capture import Capture  # noqa: E402
-from workloads import UNITS, WORKLOADS  # noqa: E402
+from bench.bindings import browser_seconds, library_players
+from psxgpu.capture import Capture
+from bench.workloads import UNITS, WORKLOADS
 
 OURS = 'crates/psxgpu_tool/out/psxgpu_tool'
 

@@ -1,7 +1,7 @@
 #!/usr/bin/env python3
 """Measures the commands that write text or records, and one that writes almost nothing.
 
-    python3 bench/text.py [--rotations N] [--millions N] [--ours PROGRAM]
+    python3 -m bench.text [--rotations N] [--millions N] [--ours PROGRAM]
 
 Makes a capture of N million GP0 words, small flat triangles, in records of many words, and again with a record for each
 word, as `flat` writes them. Each command plays both in turn into a file. The table has the processor time, user and
@@ -14,11 +14,10 @@ import sys
 import tempfile
 
 ROOT = os.path.dirname(os.path.dirname(os.path.abspath(__file__)))
-sys.path.insert(0, ROOT)
 
-from psxgpu.capture import Capture, drawing_area  # noqa: E402
-from run import OURS  # noqa: E402
-from workloads import Numbers, triangle  # noqa: E402
+from psxgpu.capture import Capture, drawing_area
+from bench.run import OURS
+from bench.workloads import Numbers, triangle
 
 COMMANDS = (['report'], ['list'], ['flat'], ['cut', '1'], ['slim'])
 TRIANGLES = 1000

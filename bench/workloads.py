@@ -10,9 +10,8 @@ try:
 except ImportError:
     lzma = None
 
-sys.path.insert(0, os.path.join(os.path.dirname(os.path.abspath(__file__)), '..'))
 
-from psxgpu.capture import (GP0, GP1, clut, copy, draw_mode, drawing_area, fill, line, load, polygon, records,  # noqa: E402
+from psxgpu.capture import (GP0, GP1, clut, copy, draw_mode, drawing_area, fill, line, load, polygon, records,
                      rectangle, texture_page)
 
 PAGE4, PAGE8, PAGE15 = (texture_page(x, 256, depth) for x, depth in ((512, 0), (640, 1), (768, 2)))

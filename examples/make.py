@@ -1,13 +1,11 @@
 #!/usr/bin/env python3
-"""Makes the captures of this folder: python3 examples/make.py. docs/CAPTURE.md has the format."""
+"""Makes the captures of this folder: python3 -m examples.make. docs/CAPTURE.md has the format."""
 import os
-import sys
 
 HERE = os.path.dirname(os.path.abspath(__file__))
-sys.path.insert(0, os.path.join(HERE, '..'))
 
 from psxgpu.capture import *  # noqa: E402,F403
-from textured_frame import textured_frame  # noqa: E402
+from examples.textured_frame import textured_frame
 
 
 def two_fills():

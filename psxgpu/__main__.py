@@ -42,17 +42,17 @@ def main(words: Optional[List[str]] = None) -> int:
 
 
 def answer(name: str) -> None:
-    """Prints the help or the version. Raises Trouble for another word."""
+    """Prints the help or the version. Raises ToolError for another word."""
     if name in ('-h', '--help', 'help'):
         print(help_text())
     elif name in ('--version', '-V', 'version'):
         print('psxgpu ' + __version__)
     elif os.path.exists(name):
-        raise command.Trouble('%s is a file: the name of a tool comes before it, as in psxgpu check %s' % (name, name))
+        raise command.ToolError('%s is a file: the name of a tool comes before it, as in psxgpu check %s' % (name, name))
     else:
         import difflib  # pylint: disable=import-outside-toplevel    # it is large, and rarely wanted
         near = difflib.get_close_matches(name, TOOLS, 1)
-        raise command.Trouble('there is no tool %r%s: the tools are %s'
+        raise command.ToolError('there is no tool %r%s: the tools are %s'
                               % (name, ', perhaps %s' % near[0] if near else '', ', '.join(TOOLS)))
 
 

@@ -15,9 +15,9 @@ from typing import IO, BinaryIO, Callable, Iterator, NoReturn, Optional, Protoco
 
 from psxgpu import progress
 from psxgpu.output import write_whole, writing
-from psxgpu.trouble import Trouble, named, reason_of, title
+from psxgpu.errors import ToolError, named, reason_of, title
 
-__all__ = ['BLOCK', 'DIFFERENT', 'SAME', 'TROUBLE', 'Command', 'Readable', 'Trouble', 'decimal', 'guarded', 'main',
+__all__ = ['BLOCK', 'DIFFERENT', 'SAME', 'TROUBLE', 'Command', 'Readable', 'ToolError', 'decimal', 'guarded', 'main',
            'named', 'pour', 'read_whole', 'reading', 'reason_of', 'title', 'write_whole', 'writing']
 
 SAME, DIFFERENT, TROUBLE = 0, 1, 2
@@ -57,8 +57,8 @@ class Parser(argparse.ArgumentParser):
     """A parser whose refusal is one line: what is wrong, and where the arguments are explained."""
 
     def error(self, message: str) -> NoReturn:
-        """Raises Trouble."""
-        raise Trouble('%s: `%s --help` explains the arguments' % (message, self.prog))
+        """Raises ToolError."""
+        raise ToolError('%s: `%s --help` explains the arguments' % (message, self.prog))
 
 
 def status_of(module: Command, name: str, words: Optional[Sequence[str]]) -> Optional[int]:
@@ -84,8 +84,8 @@ def guarded(name: str, work: Callable[[], Optional[int]]) -> int:
         if sys.stdout is not None:
             sys.stdout.flush()
         return status or SAME
-    except Trouble as trouble:
-        reason = str(trouble)
+    except ToolError as error:
+        reason = str(error)
     except BrokenPipeError:
         pass
     except OSError as error:
@@ -114,7 +114,7 @@ def reading(path: str) -> Iterator[BinaryIO]:
     """A file to read bytes from; `-` is standard input."""
     try:
         if path == '-' and sys.stdin is None:
-            raise Trouble('standard input: it is closed')
+            raise ToolError('standard input: it is closed')
         if path == '-':
             yield sys.stdin.buffer
         else:

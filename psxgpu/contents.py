@@ -4,7 +4,7 @@ import re
 import tempfile
 from typing import Dict, Iterator, List, Optional, Tuple
 
-from psxgpu.command import Readable, Trouble, reading
+from psxgpu.command import Readable, ToolError, reading
 from psxgpu.players import player
 from psxgpu.players.flat import flattened
 from psxgpu.snapshot import unfinished
@@ -17,12 +17,12 @@ CLASSES = ('fills and words that do nothing', 'polygons', 'segments of lines', '
 
 
 class Count:
-    """The events of a capture by kind, its frames, and the trouble that ends it."""
+    """The events of a capture by kind, its frames, and the error that ends it."""
 
     def __init__(self, path: str, name: str) -> None:
         self.by_kind: Dict[int, int] = {}
         self.frames = 0
-        self.trouble: Optional[str] = None
+        self.error: Optional[str] = None
         with reading(path) as file:
             stream = Stream(file, name)
             self.version = stream.version
@@ -30,8 +30,8 @@ class Count:
                 for kind, count, words in stream:
                     self.by_kind[kind] = self.by_kind.get(kind, 0) + count_of(kind, count)
                     self.frames += kind == GP1 and words[0] >> 24 & 0x3F == DISPLAY_START
-            except Trouble as trouble:
-                self.trouble = str(trouble)
+            except ToolError as error:
+                self.error = str(error)
         self.events = sum(self.by_kind.values())
 
     def lines(self) -> List[str]:
@@ -46,7 +46,7 @@ def beginning(path: str, name: str, version: int, events: int) -> Iterator[str]:
     """The path of a capture of the first events alone."""
     with tempfile.NamedTemporaryFile(prefix='psxgpu') as copy, reading(path) as file:
         copy.write(HEADS[version])
-        with contextlib.suppress(Trouble):
+        with contextlib.suppress(ToolError):
             for record in first_events(Stream(file, name), events):
                 copy.write(encode(*record))
         copy.write(bytes(4))
@@ -59,7 +59,7 @@ def packets_line(program: str, path: str) -> str:
     said = player.answer(program, ['report'], path)
     report_line = TAP.match(said)
     if not report_line:
-        raise Trouble('%s report: not a report: %r' % (program, said[:40]))
+        raise ToolError('%s report: not a report: %r' % (program, said[:40]))
     counts = report_line[1].decode().split()
     found = ['%s %s' % (name, count) for count, name in zip(counts, CLASSES) if count != '0']
     return 'packets: ' + (', '.join(found) or 'none')

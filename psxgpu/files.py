@@ -16,7 +16,7 @@ from psxgpu.dumps.reader import Dump
 from psxgpu.dumps.translation import Translation
 from psxgpu.packing import PACKED, Peeked, Pieces, unpacked
 from psxgpu.stream import HEADS, SNAPSHOT
-from psxgpu.trouble import title
+from psxgpu.errors import title
 
 RECORDINGS = (*HEADS.values(), SNAPSHOT)
 

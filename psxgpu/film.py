@@ -6,7 +6,7 @@ import subprocess
 import tempfile
 from typing import IO, List, Optional, Tuple
 
-from psxgpu.command import Trouble
+from psxgpu.command import ToolError
 from psxgpu.players import player
 
 FRAME = re.compile(rb'\d{1,20} (\d{1,5}) (\d{1,5}) [0-9a-f]{64}\n')      # a line of `sums`
@@ -16,16 +16,16 @@ MARKS = ['marks']
 
 
 def find_ffmpeg(given: Optional[str]) -> str:
-    """Returns the path of ffmpeg. Raises Trouble if there is none."""
+    """Returns the path of ffmpeg. Raises ToolError if there is none."""
     path = shutil.which(given or 'ffmpeg')
     if path is None:
-        raise Trouble('%s: not a program' % given if given else
+        raise ToolError('%s: not a program' % given if given else
                       'ffmpeg is not on the path: install it (apt-get install ffmpeg), or name it with --ffmpeg')
     return path
 
 
 def sizes_of(program: str, path: str, ends: List[str]) -> 'collections.Counter[Tuple[int, int]]':
-    """Returns how many pictures there are of each size. Raises Trouble if the program refuses the capture."""
+    """Returns how many pictures there are of each size. Raises ToolError if the program refuses the capture."""
     sizes: 'collections.Counter[Tuple[int, int]]' = collections.Counter()
     with player.playing(program, ['sums', *ends], path) as run:
         for line in run.out:
@@ -38,12 +38,12 @@ def sizes_of(program: str, path: str, ends: List[str]) -> 'collections.Counter[T
 
 def frames_of(program: str, path: str, by_flips: bool) -> Tuple[List[str], Tuple[int, int]]:
     """Returns where frames end, and the size that most of them have: at marks if the capture has marks, else at flips.
-    Raises Trouble if there is no picture."""
+    Raises ToolError if there is no picture."""
     for ends in (FLIPS,) if by_flips else (MARKS, FLIPS):
         sizes = sizes_of(program, path, ends)
         if sizes:
             return ends, sizes.most_common(1)[0][0]
-    raise Trouble('it shows no picture')
+    raise ToolError('it shows no picture')
 
 
 def encode(ffmpeg: str, frames: IO[bytes], rate: int, size: Tuple[int, int], target: str) -> None:
@@ -54,4 +54,4 @@ def encode(ffmpeg: str, frames: IO[bytes], rate: int, size: Tuple[int, int], tar
         status = subprocess.run(words, stdin=frames, stdout=subprocess.DEVNULL, stderr=err, check=False).returncode
         err.seek(0)
         if status:
-            raise Trouble('ffmpeg: ' + player.failure(status, err.read()))
+            raise ToolError('ffmpeg: ' + player.failure(status, err.read()))

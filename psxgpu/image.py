@@ -3,7 +3,7 @@ import struct
 import zlib
 from typing import Any, Callable, Dict, Iterable, Iterator, List, Tuple, TypeVar
 
-from psxgpu.command import Trouble, read_whole, title, write_whole
+from psxgpu.command import ToolError, read_whole, title, write_whole
 
 CHANNELS = {0: 1, 2: 3, 3: 1, 4: 2, 6: 4}   # bytes of a pixel, by PNG's type of colour
 SIGNATURE = b'\x89PNG\r\n\x1a\n'
@@ -54,7 +54,7 @@ def unfiltered(kind: int, row: bytes, above: bytes, step: int) -> bytearray:
     """Returns a row of a PNG without its filter. above: the row over it; step: bytes of a pixel."""
     out = bytearray(row)
     if kind > 4:
-        raise Trouble('a bad PNG: filter %d' % kind)
+        raise ToolError('a bad PNG: filter %d' % kind)
     if kind == 2:
         return bytearray((a + b) & 255 for a, b in zip(row, above))
     for i in range(len(out) if kind else 0):
@@ -85,7 +85,7 @@ def colors(row: bytes, kind: int, palette: bytes) -> bytes:
 
 
 def read_png(data: bytes) -> Image:
-    """Returns the picture of a PNG of 8 bits a channel. Raises Trouble for others."""
+    """Returns the picture of a PNG of 8 bits a channel. Raises ToolError for others."""
     parts: Dict[bytes, bytes] = {}
     for name, part in chunks(data):
         parts[name] = parts.get(name, b'') + part
@@ -93,13 +93,13 @@ def read_png(data: bytes) -> Image:
         width, height, depth, kind, _, _, laced = struct.unpack('>IIBBBBB', parts[b'IHDR'])
         rows = zlib.decompress(parts[b'IDAT'])
     except (KeyError, struct.error, zlib.error) as error:
-        raise Trouble('a bad PNG') from error
+        raise ToolError('a bad PNG') from error
     if depth != 8 or laced or kind not in CHANNELS:
-        raise Trouble('a PNG of %d bits a channel%s: 8 bits without interlace are read'
+        raise ToolError('a PNG of %d bits a channel%s: 8 bits without interlace are read'
                       % (depth, ', interlaced' if laced else ''))
     length = width * CHANNELS[kind]
     if not width or len(rows) != (length + 1) * height:
-        raise Trouble('a bad PNG: %d bytes for %d by %d' % (len(rows), width, height))
+        raise ToolError('a bad PNG: %d bytes for %d by %d' % (len(rows), width, height))
     out: List[bytes] = []
     above = bytearray(length)
     for at in range(0, len(rows), length + 1):
@@ -109,7 +109,7 @@ def read_png(data: bytes) -> Image:
 
 
 def read_ppm(data: bytes) -> Image:
-    """Returns the picture of a PPM. Comments and any white space may be between its numbers. Raises Trouble for
+    """Returns the picture of a PPM. Comments and any white space may be between its numbers. Raises ToolError for
     others."""
     numbers: List[int] = []
     at = 2
@@ -126,10 +126,10 @@ def read_ppm(data: bytes) -> Image:
                 break
             numbers.append(int(data[begin:at]))
     if len(numbers) < 3 or 0 in numbers or numbers[2] != 255:
-        raise Trouble('a bad PPM: width, height and 255 are wanted, found %s' % (numbers or 'no numbers'))
+        raise ToolError('a bad PPM: width, height and 255 are wanted, found %s' % (numbers or 'no numbers'))
     width, height, pixels = numbers[0], numbers[1], data[at + 1:]
     if len(pixels) != 3 * width * height:
-        raise Trouble('a bad PPM: %d bytes for %d by %d' % (len(pixels), width, height))
+        raise ToolError('a bad PPM: %d bytes for %d by %d' % (len(pixels), width, height))
     return Image(width, height, bytes(pixels))
 
 
@@ -147,8 +147,8 @@ def about(path: str, read: Callable[..., Result], *arguments: Any) -> Result:
     """Returns what `read` returns. Its errors get the name of the file."""
     try:
         return read(*arguments)
-    except Trouble as trouble:
-        raise Trouble('%s: %s' % (title(path), trouble)) from trouble
+    except ToolError as error:
+        raise ToolError('%s: %s' % (title(path), error)) from error
 
 
 def load_file(path: str) -> Tuple[bytes, bool]:

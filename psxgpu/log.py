@@ -3,7 +3,7 @@ from array import array
 from typing import IO, Iterable, Iterator, List
 
 from psxgpu.capture import Capture
-from psxgpu.command import Trouble, read_whole
+from psxgpu.command import ToolError, read_whole
 from psxgpu.stream import GP0
 
 MOST_GATHERED, TALL_DUMP = 65536, 2097152
@@ -13,7 +13,7 @@ USES = {'gp0': 'gp0 WORD ..', 'gp1': 'gp1 WORD', 'read': 'read [N]', 'turn': 'tu
         'display': 'display WORD ..'}
 
 
-class Bad(Trouble):
+class Bad(ToolError):
     """A line that is not an event."""
 
 
@@ -134,9 +134,9 @@ def from_log(lines: Iterable[str], records: IO[bytes]) -> Log:
 
 
 def lines_of(file: IO[bytes], name: str) -> Iterator[str]:
-    """Returns the lines of a log. Raises Trouble at one that is not ASCII."""
+    """Returns the lines of a log. Raises ToolError at one that is not ASCII."""
     for at, line in enumerate(file, 1):
         try:
             yield line.decode('ascii')
         except UnicodeDecodeError as error:
-            raise Trouble('%s: line %d is not text: %r' % (name, at, line[:40])) from error
+            raise ToolError('%s: line %d is not text: %r' % (name, at, line[:40])) from error

@@ -3,7 +3,7 @@ import os
 import struct
 from typing import IO, Tuple
 
-from psxgpu.command import Trouble
+from psxgpu.command import ToolError
 from psxgpu.stream import BEGIN, DMA, END, GP0, GP1, HEADS, KINDS, RAM
 
 WORDS = {GP1: 1, DMA: 3, BEGIN: 3}      # words after the tag
@@ -26,18 +26,18 @@ def rest_of(tag: int, data: bytes) -> bytes:
 
 def whole_of(file: IO[bytes], name: str) -> Tuple[int, bytes]:
     """Returns how many bytes of a capture are whole records, and the bytes that have to follow: none if it is whole.
-    Raises Trouble if it is not a capture, or has something that is not a record."""
+    Raises ToolError if it is not a capture, or has something that is not a record."""
     size, at = file.seek(0, os.SEEK_END), 8
     file.seek(0)
     if file.read(8) not in HEADS.values():
-        raise Trouble('%s: not a capture' % name)
+        raise ToolError('%s: not a capture' % name)
     while at + 4 <= size:
         file.seek(at)
         tag, = struct.unpack('<I', file.read(4))
         if tag >> 24 == END:
             return at + 4, b''
         if tag >> 24 >= len(KINDS):
-            raise Trouble('%s: byte %d: %08x begins no record' % (name, at, tag))
+            raise ToolError('%s: byte %d: %08x begins no record' % (name, at, tag))
         if at + length_of(tag) > size:
             return at, rest_of(tag, file.read()) + bytes(4)
         at += length_of(tag)

@@ -12,7 +12,7 @@ import stat
 import sys
 from typing import BinaryIO, Iterable, Iterator, Optional, Tuple, cast
 
-from psxgpu.trouble import Trouble, named
+from psxgpu.errors import ToolError, named
 
 STREAMS = {'-': 1, '/dev/stdout': 1, '/dev/stderr': 2}
 
@@ -47,12 +47,12 @@ def status_of(path: str, stream: Optional[int]) -> Optional[os.stat_result]:
 
 
 def refuse_inputs(path: str, inputs: Iterable[str]) -> None:
-    """Raises Trouble if an output is also one of the inputs. Call it before anything is opened."""
+    """Raises ToolError if an output is also one of the inputs. Call it before anything is opened."""
     target = status_of(path, stream_of(path))
     for name in inputs:
         source = status_of(name, 0 if name == '-' else None)
         if source and target and stat.S_ISREG(source.st_mode) and os.path.samestat(source, target):
-            raise Trouble('%s is also the input: name another output' % ('standard output' if path == '-' else path))
+            raise ToolError('%s is also the input: name another output' % ('standard output' if path == '-' else path))
 
 
 @contextlib.contextmanager
@@ -60,7 +60,7 @@ def straight(descriptor: int, title: str, is_text: bool) -> Iterator[BinaryIO]:
     """Writes to a device, a pipe or a stream, and closes `descriptor`."""
     with Written(descriptor, title) as raw:
         if raw.isatty() and not is_text:
-            raise Trouble('the output is binary: redirect it to a file or a program, as in > FILE')
+            raise ToolError('the output is binary: redirect it to a file or a program, as in > FILE')
         with io.BufferedWriter(raw) as file:
             yield cast(BinaryIO, file)
 
@@ -117,11 +117,11 @@ def replacing(path: str, old: Optional[os.stat_result]) -> Iterator[BinaryIO]:
 @contextlib.contextmanager
 def written_by_name(path: str, inputs: Iterable[str] = ()) -> Iterator[str]:
     """The path of a file for a program to write, with the ending of `path`. It becomes `path` at the end of the block,
-    as with `writing`. Raises Trouble if `path` is one of `inputs`, a device, a pipe or `-`."""
+    as with `writing`. Raises ToolError if `path` is one of `inputs`, a device, a pipe or `-`."""
     refuse_inputs(path, inputs)
     old = status_of(path, None)
     if stream_of(path) is not None or old and not stat.S_ISREG(old.st_mode):
-        raise Trouble('%s: name a file: it is not written straight through' % path)
+        raise ToolError('%s: name a file: it is not written straight through' % path)
     refuse_name(path, old)
     with part_of(path, old) as (part, descriptor):
         try:
@@ -136,7 +136,7 @@ def writing(path: str, inputs: Iterable[str] = (), is_text: bool = False) -> Ite
     """A file to write bytes to; `-` is standard output.
 
     The file gets its name at the end of the block. If the block raises, the old file stays. A new file has the mode
-    bits of the old one, and a symbolic link keeps leading to it. Raises Trouble if the output is one of the paths
+    bits of the old one, and a symbolic link keeps leading to it. Raises ToolError if the output is one of the paths
     `inputs`, and if bytes that are not text (`is_text`) would go to a terminal.
     """
     refuse_inputs(path, inputs)

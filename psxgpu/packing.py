@@ -14,7 +14,7 @@ from typing import IO, Any, Callable, Iterable, Iterator, Optional, cast
 
 from psxgpu.command import BLOCK, Readable, pour, reading
 from psxgpu.output import writing
-from psxgpu.trouble import Trouble, title
+from psxgpu.errors import ToolError, title
 from psxgpu.zstd import ZstdFault, zstd_reader, zstd_writer
 
 GZIP, XZ, ZSTD = b'\x1f\x8b\x08', b'\xfd7zXZ\x00', b'\x28\xb5\x2f\xfd'
@@ -25,7 +25,7 @@ FAULTS = (EOFError, gzip.BadGzipFile, zlib.error, lzma.LZMAError, ZstdFault)
 GZIP_LEVEL, XZ_PRESET = 4, 1    # a dump of 110 MB is packed within 6 seconds by gzip
 
 
-class Damaged(Trouble):
+class Damaged(ToolError):
     """The contents of a file are at fault, and not the machine. Its text is the reason."""
 
 

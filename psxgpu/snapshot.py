@@ -2,7 +2,7 @@
 import struct
 from typing import List, Sequence, Tuple
 
-from psxgpu.command import Readable, Trouble
+from psxgpu.command import Readable, ToolError
 from psxgpu.packets.split import name_and_length
 
 STATE = 3 + 13      # height, events played, registers
@@ -21,7 +21,7 @@ class Words:
         """Returns the next n words."""
         data = self.file.read(4 * n)
         if len(data) < 4 * n:
-            raise Trouble('the snapshot that the player writes is cut')
+            raise ToolError('the snapshot that the player writes is cut')
         return struct.unpack('<%dI' % n, data)
 
     def one(self) -> int:

@@ -4,12 +4,12 @@
         for kind, count, words in Stream(file, 'mine.capture'):
             ..
 
-A capture that breaks the format is `Trouble`, with the byte. docs/CAPTURE.md has the format.
+A capture that breaks the format is `ToolError`, with the byte. docs/CAPTURE.md has the format.
 """
 from array import array
 from typing import Dict, Iterator, NoReturn, Optional, Tuple
 
-from psxgpu.command import Readable, Trouble
+from psxgpu.command import Readable, ToolError
 from psxgpu.records import (BEGIN, DMA, END, GP0, GP1, HEADS, KINDS, MOST_READS, MOST_WORDS, NOT_FLAT, RAM, READ,
                             SINGLE, SKIP, SNAPSHOT, STAT, TURN, VERSIONS, WANTED, Record, count_of, encode,
                             first_events, is_allowed, later_events, little)
@@ -43,11 +43,11 @@ class Stream:
         self.version = VERSIONS[head]
 
     def refuse(self, head: bytes) -> NoReturn:
-        """Raises Trouble with what the file seems to be."""
+        """Raises ToolError with what the file seems to be."""
         kinds = [kind for begin, kind in BEGINNINGS.items() if head.startswith(begin)]
         if not head:
-            raise Trouble('%s: empty' % self.name)
-        raise Trouble('%s: not a capture: %s' % (self.name, kinds[0] if kinds else 'it begins with %r' % head))
+            raise ToolError('%s: empty' % self.name)
+        raise ToolError('%s: not a capture: %s' % (self.name, kinds[0] if kinds else 'it begins with %r' % head))
 
     @property
     def place(self) -> int:
@@ -55,7 +55,7 @@ class Stream:
         return self.before + 4 * self.at
 
     def more(self, n: int) -> None:
-        """Reads until n words are there. Raises Trouble if the file ends before."""
+        """Reads until n words are there. Raises ToolError if the file ends before."""
         self.before += 4 * self.at
         words = self.block[self.at:]
         self.at = 0
@@ -65,7 +65,7 @@ class Stream:
             self.rest += len(data) % 4
             if not data and len(words) < n:
                 self.block = words
-                raise Trouble('%s: cut at byte %d, inside a record or before the End record'
+                raise ToolError('%s: cut at byte %d, inside a record or before the End record'
                               % (self.name, self.before + 4 * len(words) + self.rest))
         self.block = words
 
@@ -100,12 +100,12 @@ class Stream:
 
     def tag(self) -> Tuple[int, int, int]:
         """Returns kind and count of the record whose tag is in the block, and the number of its words. Takes the tag.
-        Raises Trouble if it is not a record."""
+        Raises ToolError if it is not a record."""
         tag = self.block[self.at]
         if tag not in self.sizes:
             kind, count = tag >> 24, tag & 0xFFFFFF
             if not is_allowed(self.version, kind, count):
-                raise Trouble('%s: byte %d: %08x begins no record of version %d'
+                raise ToolError('%s: byte %d: %08x begins no record of version %d'
                               % (self.name, self.place, tag, self.version))
             if len(self.sizes) == MOST_SIZES:
                 self.sizes.clear()
@@ -172,7 +172,7 @@ class Stream:
                 return
             try:
                 words = self.take(size)
-            except Trouble:
+            except ToolError:
                 yield from self.beginning(kind, count)
                 raise
             if kind == RAM:
@@ -188,7 +188,7 @@ class Stream:
             yield kind, there, words
 
     def check_address(self, kind: int, count: int, words: "array[int]") -> None:
-        """Raises Trouble if a Ram record is not within main memory."""
+        """Raises ToolError if a Ram record is not within main memory."""
         if kind == RAM and (words[0] % 4 or words[0] + 4 * count > 0x200000):
-            raise Trouble('%s: byte %d: not an address for %d words: %08x'
+            raise ToolError('%s: byte %d: not an address for %d words: %08x'
                           % (self.name, self.place - 4 * len(words), count, words[0]))

@@ -2,16 +2,16 @@
 import struct
 from typing import List, Optional, Sequence
 
-from psxgpu.command import Trouble
+from psxgpu.command import ToolError
 
 WIDTH = 1024                                # cells of a row of video memory
 Cells = Sequence[int]
 
 
 def cells_of(dump: bytes) -> Cells:
-    """Returns the halfwords of a dump. Raises Trouble if it has no rows of 2048 bytes."""
+    """Returns the halfwords of a dump. Raises ToolError if it has no rows of 2048 bytes."""
     if not dump or len(dump) % (2 * WIDTH):
-        raise Trouble('neither a dump nor a picture: %d bytes%s'
+        raise ToolError('neither a dump nor a picture: %d bytes%s'
                       % (len(dump), ', not a multiple of 2048' if dump else ''))
     return struct.unpack('<%dH' % (len(dump) // 2), dump)
 
@@ -35,7 +35,7 @@ def palette_of(cells: Cells, bits: int, place: Optional[Sequence[int]]) -> List[
     x, y = place
     row = cells[WIDTH * y:WIDTH * (y + 1)]
     if not row:
-        raise Trouble('palette y: %d, the dump has %d rows' % (y, len(cells) // WIDTH))
+        raise ToolError('palette y: %d, the dump has %d rows' % (y, len(cells) // WIDTH))
     return [wide(row[(x + index) % WIDTH]) for index in range(1 << bits)]
 
 

@@ -1,5 +1,5 @@
 """Files of zstd (.zst), read and written by the program `zstd`, or by a module where there is no program: Python's own
-from 3.14 on, or `zstandard`. If there is none of them, `Trouble` names the package."""
+from 3.14 on, or `zstandard`. If there is none of them, `ToolError` names the package."""
 from __future__ import annotations
 
 import contextlib
@@ -10,7 +10,7 @@ import subprocess
 import tempfile
 from typing import IO, Any, Iterator, Optional
 
-from psxgpu.trouble import Trouble
+from psxgpu.errors import ToolError
 
 MISSING = '%s: a zstd file: install the package zstd, or python3-zstandard'
 LEVEL = 3
@@ -120,7 +120,7 @@ def zstd_reader(packed: IO[bytes], name: str) -> Iterator[Child | Own | Frames]:
         return
     found = module()
     if found is None:
-        raise Trouble(MISSING % name)
+        raise ToolError(MISSING % name)
     yield Own(found, packed) if hasattr(found, 'ZstdFile') else Frames(found, packed)
 
 
@@ -133,11 +133,11 @@ def zstd_writer(raw: IO[bytes], name: str) -> Iterator[IO[bytes]]:
             yield child.stdin
             child.stdin.close()
             if child.wait():
-                raise Trouble('%s: %s' % (name, reason(child, said)))
+                raise ToolError('%s: %s' % (name, reason(child, said)))
         return
     found = module()
     if found is None:
-        raise Trouble(MISSING % name)
+        raise ToolError(MISSING % name)
     own: Any = getattr(found, 'ZstdFile', None)
     with (own(raw, 'wb', level=LEVEL) if own else
           found.ZstdCompressor(LEVEL).stream_writer(raw, closefd=False)) as file:

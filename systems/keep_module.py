@@ -1,7 +1,7 @@
 #!/usr/bin/env python3
 """Builds a crate with the kit for Linux, and keeps the LLVM module that the kit compiles.
 
-    python3 systems/keep_module.py psxgpu_tool|psxgpu_c x86_64|aarch64
+    python3 -m systems.keep_module psxgpu_tool|psxgpu_c x86_64|aarch64
 
 The build is the kit's own, `rattle build --target`, over the proofs that `make run` and `make lib` keep: a function
 that is proved is not proved again. It makes three files in out/modules:
@@ -10,6 +10,7 @@ that is proved is not proved again. It makes three files in out/modules:
     CRATE-PROCESSOR.bc                              the module, from which `retarget.py` makes other systems' code
     CRATE-PROCESSOR.line                            the verdict: what is proved, for which target
 """
+import importlib.util
 import os
 import re
 import subprocess
@@ -17,9 +18,7 @@ import sys
 import tempfile
 from typing import Any, List
 
-sys.path.insert(0, os.path.dirname(os.path.abspath(__file__)))
-import toolchain  # noqa: E402
-from toolchain import MODULES, ROOT, kit, module, tool  # noqa: E402
+from systems.toolchain import MODULES, ROOT, kit, module, tool
 
 CRATES = ('psxgpu_tool', 'psxgpu_c')
 PROCESSORS = ('x86_64', 'aarch64')
@@ -45,8 +44,12 @@ def lay_out(folder: str, kept: str) -> None:
 
 def rtlib() -> Any:
     """Returns the kit's module for its command `rt`."""
-    sys.path.insert(0, os.path.join(kit(), 'bin'))
-    return __import__('rtlib')
+    place = importlib.util.spec_from_file_location('rtlib', os.path.join(kit(), 'bin', 'rtlib.py'))
+    if place is None or place.loader is None:
+        sys.exit('keep_module.py: the kit has no bin/rtlib.py')
+    found = importlib.util.module_from_spec(place)
+    place.loader.exec_module(found)
+    return found
 
 
 def words_of(crate: str, folder: str, processor: str, made: str) -> List[str]:

@@ -1,5 +1,5 @@
 #!/usr/bin/env python3
-"""Links the program and the library for macOS 11 and later, on arm64 and x86-64: python3 systems/macos.py
+"""Links the program and the library for macOS 11 and later, on arm64 and x86-64: python3 -m systems.macos
 
 Each file of out/macos has the code for both processors: `psxgpu_tool`, `libpsxgpu.a`, `libpsxgpu.1.dylib`. `make macos`
 compiles the modules of both processors first (retarget.py). The kit's linker signs code for arm64 ad hoc. There is no
@@ -11,9 +11,8 @@ import subprocess
 import sys
 from typing import Dict, List
 
-sys.path.insert(0, os.path.dirname(os.path.abspath(__file__)))
-import toolchain  # noqa: E402
-from toolchain import archive, clang, exports, library_parts, linker, out, run, source  # noqa: E402
+from systems import toolchain
+from systems.toolchain import archive, clang, exports, library_parts, linker, out, run, source
 
 PROCESSORS = ('arm64', 'x86_64')
 MACOS = '11.0.0'

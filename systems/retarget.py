@@ -1,7 +1,7 @@
 #!/usr/bin/env python3
 """Compiles a program or a library of the kit for a system that the kit does not know.
 
-    python3 systems/retarget.py MODULE.bc SYSTEM OUT.o
+    python3 -m systems.retarget MODULE.bc SYSTEM OUT.o
 
 MODULE.bc is what `keep_module.py` kept, for the processor that `targets.py` names for SYSTEM. Its text gets the layout
 and the triple of SYSTEM, and these changes:
@@ -19,9 +19,8 @@ import re
 import subprocess
 import sys
 
-sys.path.insert(0, os.path.dirname(os.path.abspath(__file__)))
-import toolchain  # noqa: E402
-from targets import KITS_LAYOUTS, TARGETS  # noqa: E402
+from systems import toolchain
+from systems.targets import KITS_LAYOUTS, TARGETS
 
 CALLS = {'write': 'os_write', '__write': 'os_write', 'read': 'os_read', 'open': 'os_open', 'close': 'os_close',
          'isatty': 'os_isatty', 'statx': 'os_exists', '__xpg_strerror_r': 'os_strerror', 'main': 'rattle_main'}

@@ -18,7 +18,7 @@ MODULES = out/modules
 RETARGET = $(addprefix systems/,targets.py retarget.py src/heap.ll)
 COMMON = $(addprefix systems/src/,os.h os_words.c os_texts.c os_processor.c)
 # What makes a WebAssembly module of object files.
-WASM = $(addprefix web/,wasm.py lower64.py lower64_code.py wasm_binary.py memory.c)
+WASM = $(addprefix systems/,wasm.py lower64.py lower64_code.py wasm_binary.py) web/memory.c
 
 ifeq ($(ARCH),aarch64)
 CROSS = aarch64-linux-gnu-
@@ -37,10 +37,10 @@ endif
 
 # The module, and what the kit makes of it, which is newer.
 $(MODULES)/psxgpu_tool-%.bc: $(BUILT)/psxgpu_tool
-	python3 systems/keep_module.py psxgpu_tool $*
+	python3 -m systems.keep_module psxgpu_tool $*
 
 $(MODULES)/psxgpu_c-%.bc: $(PROVED)
-	python3 systems/keep_module.py psxgpu_c $*
+	python3 -m systems.keep_module psxgpu_c $*
 
 $(MODULES)/psxgpu_c-%.a: $(MODULES)/psxgpu_c-%.bc ;
 
@@ -52,35 +52,35 @@ macos: out/macos/psxgpu_tool
 
 out/macos/arm64/%.o: $(MODULES)/%-aarch64.bc $(RETARGET)
 	mkdir -p $(@D)
-	python3 systems/retarget.py $< macos-arm64 $@
+	python3 -m systems.retarget $< macos-arm64 $@
 
 out/macos/x86_64/%.o: $(MODULES)/%-x86_64.bc $(RETARGET)
 	mkdir -p $(@D)
-	python3 systems/retarget.py $< macos-x86_64 $@
+	python3 -m systems.retarget $< macos-x86_64 $@
 
 out/macos/psxgpu_tool: $(foreach it,arm64 x86_64,out/macos/$(it)/psxgpu_tool.o out/macos/$(it)/psxgpu_c.o) \
     systems/macos.py $(COMMON) systems/src/os_posix.c $(shell find systems/src/include systems/src/macos -type f)
-	python3 systems/macos.py
+	python3 -m systems.macos
 
 windows: out/windows/psxgpu_tool.exe
 
 out/windows/%.o: $(MODULES)/%-x86_64.bc $(RETARGET)
 	mkdir -p $(@D)
-	python3 systems/retarget.py $< windows-x86_64 $@
+	python3 -m systems.retarget $< windows-x86_64 $@
 
 out/windows/psxgpu_tool.exe: out/windows/psxgpu_tool.o out/windows/psxgpu_c.o systems/windows.py $(COMMON) \
     systems/src/os_windows.c
-	python3 systems/windows.py
+	python3 -m systems.windows
 
 wasi: out/wasi/psxgpu_tool.wasm
 
 out/wasi/%.o: $(MODULES)/%-x86_64.bc $(RETARGET) systems/src/chosen_bytes.ll
 	mkdir -p $(@D)
-	python3 systems/retarget.py $< wasm64 $@
+	python3 -m systems.retarget $< wasm64 $@
 
 out/wasi/psxgpu_tool.wasm: out/wasi/psxgpu_tool.o systems/wasi.py $(WASM) $(COMMON) systems/src/os_wasi.c
-	python3 systems/wasi.py
+	python3 -m systems.wasi
 
 dist-all: $(PLAYER) lib viewer systems
 	$(MAKE) ARCH=aarch64 out/aarch64/psxgpu_tool lib
-	PLAYER=$(abspath $(PLAYER)) python3 packaging/packages.py $@
+	PLAYER=$(abspath $(PLAYER)) python3 -m packages.build $@

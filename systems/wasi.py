@@ -1,16 +1,12 @@
 #!/usr/bin/env python3
-"""Links psxgpu_tool.wasm, a command for runtimes of WASI (preview 1): python3 systems/wasi.py
+"""Links psxgpu_tool.wasm, a command for runtimes of WASI (preview 1): python3 -m systems.wasi
 
 `make wasi` calls it: out/wasi/psxgpu_tool.o is compiled of the kit's module. Three C files of src/ and the heap of the
 browser's module (web/memory.c) are added.
 """
 import os
-import sys
 
-HERE = os.path.dirname(os.path.abspath(__file__))
-sys.path[:0] = [HERE, os.path.join(os.path.dirname(HERE), 'web')]
-import toolchain  # noqa: E402
-import wasm  # noqa: E402
+from systems import toolchain, wasm
 
 
 def main() -> None:

@@ -1,18 +1,16 @@
 #!/usr/bin/env python3
-"""Links the program and the library for Windows on x86-64: python3 systems/windows.py
+"""Links the program and the library for Windows on x86-64: python3 -m systems.windows
 
 `make windows` calls it: psxgpu_tool.o and psxgpu_c.o are in out/windows, compiled of the kit's modules, which are
 proved for Linux. It makes `psxgpu_tool.exe`, `psxgpu.dll`, its import library for MinGW (`libpsxgpu.dll.a`), and
 `psxgpu.def`, of which `lib /def:psxgpu.def /machine:x64` makes the one for MSVC. All need msvcrt.dll and kernel32.dll
 alone. Needs MinGW (Debian: gcc-mingw-w64-x86-64).
 """
-import os
 import sys
 from typing import List
 
-sys.path.insert(0, os.path.dirname(os.path.abspath(__file__)))
-import toolchain  # noqa: E402
-from toolchain import exports, library_parts, out, run, source  # noqa: E402
+from systems import toolchain
+from systems.toolchain import exports, library_parts, out, run, source
 
 CC = 'x86_64-w64-mingw32-gcc'
 FOLDER = 'windows'

@@ -1,5 +1,6 @@
 """What the tests of the tools share. Tests that need psxgpu_tool are skipped where there is none."""
 import os
+import shutil
 import subprocess
 import sys
 import tempfile
@@ -7,22 +8,30 @@ import unittest
 
 TOP = os.path.dirname(os.path.dirname(os.path.abspath(__file__)))
 EXAMPLES = os.path.join(TOP, 'examples')
-sys.path[:0] = [TOP, EXAMPLES]
 os.environ['PYTHONPATH'] = TOP      # for the tools and players that the tests start
 
-from psxgpu.players import player  # noqa: E402
-from psxgpu.command import Trouble  # noqa: E402
+from psxgpu.players import player
+from psxgpu.command import ToolError
 
 
 def built_player():
     try:
         return os.path.abspath(player.find())
-    except Trouble:
+    except ToolError:
         return None
 
 
 PLAYER = built_player()
 needs_player = unittest.skipUnless(PLAYER, 'psxgpu_tool is not built')
+
+
+def needs(*programs):
+    """Returns a `setUpModule` that skips the module's tests if a program is missing."""
+    def set_up_module():
+        missing = [name for name in programs if not shutil.which(name)]
+        if missing:
+            raise unittest.SkipTest('no %s on this machine' % ' and no '.join(missing))
+    return set_up_module
 
 
 def example(name):

@@ -1,14 +1,14 @@
 #!/usr/bin/env python3
 """Makes the machine as a WebAssembly module, and the page with it.
 
-    python3 web/build.py [module] [page]
+    python3 -m web.build [module] [page]
 
 `make web` calls it. The kit builds no WebAssembly module that reaches the heap. So this one is made of the LLVM module of
 the native library (systems/keep_module.py), compiled for WebAssembly (systems/retarget.py: out/wasi/psxgpu_c.o) and
-linked with web/memory.c. Its addresses have 64 bits, as in the native library, and web/lower64.py makes them 32 bits: then
+linked with web/memory.c. Its addresses have 64 bits, as in the native library, and systems/lower64.py makes them 32 bits: then
 every engine with SIMD runs it. These files are made in web/out:
 
-    psxgpu.64.wasm  the module before web/lower64.py, for a check that both do the same
+    psxgpu.64.wasm  the module before systems/lower64.py, for a check that both do the same
     psxgpu.wasm     the module
     psxgpu.js       web/psxgpu.js, what it imports, and the module: one script that needs no server
     index.html      the page, with the script and two examples in it: one file that needs no server
@@ -20,10 +20,9 @@ import sys
 
 WEB = os.path.dirname(os.path.abspath(__file__))
 ROOT = os.path.dirname(WEB)
-sys.path[:0] = [WEB, os.path.join(ROOT, 'systems')]
-import bundle  # noqa: E402
-import toolchain  # noqa: E402
-import wasm  # noqa: E402
+from web import bundle
+from systems import toolchain
+from systems import wasm
 
 OUT = os.path.join(WEB, 'out')
 EXAMPLES = ('flips', 'textured-frame')

@@ -4,7 +4,7 @@
 const element = id => document.getElementById(id);
 const say = text => { element('said').textContent = text; };
 let library = null;
-let film = null;     // { frames, the pictures; vram, video memory at the end; trouble, or '' }
+let film = null;     // { frames, the pictures; vram, video memory at the end; error, or '' }
 let showsMemory = false;
 let timer = null;
 
@@ -56,7 +56,7 @@ function toggle() {
 
 // The pictures after each flip and at the end, up to where the capture is refused.
 function filmOf(bytes) {
-    const found = { frames: [], vram: null, trouble: '' };
+    const found = { frames: [], vram: null, error: '' };
     const add = machine => {
         try {
             found.frames.push(new ImageData(machine.pictureRgba(), ...machine.shape()));
@@ -70,7 +70,7 @@ function filmOf(bytes) {
             if (record === null || psxgpu.isFlip(record)) add(machine);
         });
     } catch (bad) {
-        found.trouble = bad.message;
+        found.error = bad.message;
     }
     return found;
 }
@@ -78,7 +78,7 @@ function filmOf(bytes) {
 function open(bytes, name) {
     stop();
     const found = filmOf(bytes);
-    say(found.trouble ? `${name}: ${found.trouble}` : name);
+    say(found.error ? `${name}: ${found.error}` : name);
     if (found.vram === null) return;
     film = found;
     element('at').max = Math.max(0, film.frames.length - 1);

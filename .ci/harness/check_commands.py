@@ -17,9 +17,8 @@ import sys
 import tempfile
 
 ROOT = os.path.dirname(os.path.dirname(os.path.dirname(os.path.abspath(__file__))))
-sys.path.insert(0, ROOT)
 
-from psxgpu.command import DIFFERENT, SAME, main  # noqa: E402
+from psxgpu.command import DIFFERENT, SAME, main
 
 SECONDS = 120
 

@@ -16,9 +16,7 @@ import subprocess
 import sys
 import tempfile
 
-sys.path.insert(0, os.path.dirname(os.path.dirname(os.path.dirname(os.path.abspath(__file__)))))
-
-from psxgpu.capture import GP1, HEADS, events, records  # noqa: E402
+from psxgpu.capture import GP1, HEADS, events, records
 
 FLIP, MARK = 0x05, 0x3F
 # Captures with more events have no cells watched: each event is a run of the player.

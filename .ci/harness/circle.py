@@ -5,7 +5,7 @@ the program finds no difference, and what was recorded of it draws the same agai
     python3 .ci/harness/circle.py LIBRARY         libpsxgpu.a; $PLAYER is psxgpu_tool
 
 The emulator is pcsxr with the recorder and the plugin that draws; if it is not on the machine, the bare processor of
-tests/console with the machine as its GPU. Status: 0 all agree, 1 some differ, 2 trouble, 77 nothing can run here.
+tests/console with the machine as its GPU. Status: 0 all agree, 1 some differ, 2 error, 77 nothing can run here.
 """
 import argparse
 import glob
@@ -21,13 +21,12 @@ import tempfile
 from typing import Iterator, List, Tuple
 
 TOP = os.path.dirname(os.path.dirname(os.path.dirname(os.path.abspath(__file__))))
-sys.path.insert(0, TOP)
 
-from psxgpu.capture import Capture  # noqa: E402
-from psxgpu.console import executable  # noqa: E402
-from psxgpu.packets.generated import AREA, CLASSES, background  # noqa: E402
-from psxgpu.players import player  # noqa: E402
-from psxgpu.stream import GP1, HEADS, Stream, encode  # noqa: E402
+from psxgpu.capture import Capture
+from psxgpu.console import executable
+from psxgpu.packets.generated import AREA, CLASSES, background
+from psxgpu.players import player
+from psxgpu.stream import GP1, HEADS, Stream, encode
 
 REFUSED = 'tall', 'list-loop'           # examples that are no programs: 1024 rows; refused by psxgpu_tool
 OTHERS = 'examples/cube.capture.gz', 'examples/ports.capture.gz', 'bench/valley.capture.xz'

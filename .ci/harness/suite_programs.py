@@ -14,15 +14,13 @@ import shutil
 import sys
 import tempfile
 
-from circle import SKIPPED, TOP, Bare, Console, console_of
+from circle import SKIPPED, Bare, Console, console_of
 
-sys.path.insert(0, TOP)
-
-from psxgpu.commands.conform import every_test  # noqa: E402
-from psxgpu.conformance.programs import Checked, Program, is_held, programs  # noqa: E402
-from psxgpu.conformance.suite import Test  # noqa: E402
-from psxgpu.console.orders import Orders  # noqa: E402
-from psxgpu.stream import STAT, Stream  # noqa: E402
+from psxgpu.commands.conform import every_test
+from psxgpu.conformance.programs import Checked, Program, is_held, programs
+from psxgpu.conformance.suite import Test
+from psxgpu.console.orders import Orders
+from psxgpu.stream import STAT, Stream
 
 BLANKS = 900        # for circle.py: a program ends within four times as many
 

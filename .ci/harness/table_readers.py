@@ -131,8 +131,8 @@ def js_value(path: str, names: str, expression: str) -> Any:
 
 def scripts(text: str = '') -> List[str]:
     """Returns the paths of the scripts in web/ that have a text."""
-    found = sorted(glob.glob(ROOT + '/web/*.js') + glob.glob(ROOT + '/web/viewer/*.js'))
-    return [path for path in (os.path.relpath(it, ROOT) for it in found) if text in text_of(path)]
+    found = (os.path.relpath(it, ROOT) for it in sorted(glob.glob(ROOT + '/web/**/*.js', recursive=True)))
+    return [path for path in found if not path.startswith('web/out/') and text in text_of(path)]
 
 
 def js_constants(path: str) -> Iterator[Tuple[str, int]]:

@@ -18,16 +18,15 @@ import importlib
 import sys
 from typing import Callable, Iterator, List, NamedTuple, Sequence, Tuple
 
-from table_readers import (ROOT, TAGS, Absent, Reader, Table, c_constants, c_lengths, document_kinds,
+from table_readers import (TAGS, Absent, Reader, Table, c_constants, c_lengths, document_kinds,
                            js_constants, js_value, numbered, program_lengths, program_tags, rattle_codes, rattle_kinds,
                            rattle_modes, scripts)
 
-sys.path.insert(0, ROOT)
 
-from conformance.model.packets import Packets  # noqa: E402
-from psxgpu import records  # noqa: E402
-from psxgpu.machine import MODES  # noqa: E402
-from psxgpu.packets.split import TABLE  # noqa: E402
+from suite_trials.model.packets import Packets
+from psxgpu import records
+from psxgpu.machine import MODES
+from psxgpu.packets.split import TABLE
 
 HEADER, RECORDER, MODE = 'c/psxgpu.h', 'recorder/psxgpu_capture.h', 'MODE_'
 NEVER = ('END', 'READ_FAULT')       # causes that no call returns: the header does not name them
@@ -50,7 +49,7 @@ def differences(source: Table, copy: Table, is_whole: bool) -> Iterator[str]:
 def length_copies() -> List[Copy]:
     """Returns the copies of the packet lengths."""
     return [Copy('psxgpu/packets/split.py', lambda: numbered(length for _, length in TABLE)),
-            Copy('conformance/model/packets.py', lambda: {k: Packets.length(Packets(), k << 24) for k in range(256)}),
+            Copy('suite_trials/model/packets.py', lambda: {k: Packets.length(Packets(), k << 24) for k in range(256)}),
             *in_scripts('const LENGTHS =', lambda path: numbered(js_value(path, 'LENGTHS', 'Array.from(LENGTHS)'))),
             Copy('recorder/ports.h', c_lengths)]
 

@@ -4,11 +4,10 @@ import sys
 import unittest
 
 HERE = os.path.dirname(os.path.abspath(__file__))
-sys.path[:0] = [HERE, os.path.dirname(os.path.dirname(HERE))]
 
-from check_commands import commands, references, run_command, stand_in  # noqa: E402
-from psxgpu.__main__ import TOOLS  # noqa: E402
-from tests import support  # noqa: E402
+from check_commands import commands, references, run_command, stand_in
+from psxgpu.__main__ import TOOLS
+from tests import support
 
 
 class Documents(support.InFolder):

@@ -2,15 +2,13 @@
 """Tests of .ci/harness/faults.py: python3 .ci/harness/test_faults.py. They need no player and no gcc."""
 import os
 import shutil
-import sys
 import unittest
 
 HERE = os.path.dirname(os.path.abspath(__file__))
-sys.path.insert(0, HERE)
 
-from fault_judges import (as_it_was, full_disk, without_error, without_memory, without_read,  # noqa: E402
+from fault_judges import (as_it_was, full_disk, without_error, without_memory, without_read,
                           without_write)
-from faults import event_of, rooms, start_of, trials, words_of  # noqa: E402
+from faults import event_of, rooms, start_of, trials, words_of
 
 
 class Ran:

@@ -1,15 +1,13 @@
 #!/usr/bin/env python3
 """Tests of .ci/harness/tables.py: python3 .ci/harness/test_tables.py. They need no player."""
 import os
-import sys
 import unittest
 from unittest import mock
 
 HERE = os.path.dirname(os.path.abspath(__file__))
-sys.path.insert(0, HERE)
 
-import table_readers  # noqa: E402
-import tables  # noqa: E402
+import table_readers
+import tables
 
 # A number that is changed in a file, and the line that tells of it.
 PLANTED = [

@@ -12,7 +12,7 @@ Status: 0 all are equal, 1 some differ, 2 an error, also if a player wrote no du
 """
 import argparse
 
-from psxgpu.command import DIFFERENT, SAME, Trouble, decimal
+from psxgpu.command import DIFFERENT, SAME, ToolError, decimal
 from psxgpu.packets.generated import CLASSES
 from psxgpu.players.agreement import Score, compare_class
 from psxgpu.players.named import player_of
@@ -35,10 +35,10 @@ def run(words: argparse.Namespace) -> int:
         print('\n'.join(CLASSES))
         return SAME
     if not words.theirs:
-        raise Trouble('name two players')
+        raise ToolError('name two players')
     unknown = [name for name in words.names if name not in CLASSES]
     if unknown:
-        raise Trouble('there is no class %r: the classes are %s' % (unknown[0], '; '.join(CLASSES)))
+        raise ToolError('there is no class %r: the classes are %s' % (unknown[0], '; '.join(CLASSES)))
     players = [player_of(command, appends=True) for command in (words.ours, words.theirs)]
     try_commands(players[0], players[1])
     scores = []
@@ -50,5 +50,5 @@ def run(words: argparse.Namespace) -> int:
         print(scores[-1].line(), flush=True)
     lost = sum(score.lost for score in scores)
     if lost:
-        raise Trouble('a player wrote no dump for %d of %d captures' % (lost, sum(score.captures for score in scores)))
+        raise ToolError('a player wrote no dump for %d of %d captures' % (lost, sum(score.captures for score in scores)))
     return DIFFERENT if any(score.equal < score.captures for score in scores) else SAME

@@ -21,7 +21,7 @@ import os
 from typing import List, Tuple
 
 from psxgpu import progress
-from psxgpu.command import DIFFERENT, SAME, Trouble, decimal, title
+from psxgpu.command import DIFFERENT, SAME, ToolError, decimal, title
 from psxgpu.difference import Difference, Grid, beside
 from psxgpu.files import is_recording, plain
 from psxgpu.image import about, load_file, write_image
@@ -45,20 +45,20 @@ def arguments(parser: argparse.ArgumentParser) -> None:
 
 
 def check_outputs(words: argparse.Namespace) -> None:
-    """Raises Trouble if a picture would replace an input or the other picture."""
+    """Raises ToolError if a picture would replace an input or the other picture."""
     for path in (words.picture, words.side):
         if path:
             refuse_inputs(path, [words.ours, words.theirs])
     if words.picture and words.side and os.path.realpath(words.picture) == os.path.realpath(words.side):
-        raise Trouble('%s: the name of both pictures: name another output' % words.side)
+        raise ToolError('%s: the name of both pictures: name another output' % words.side)
 
 
 def are_recordings(paths: Tuple[str, str]) -> bool:
-    """Returns whether recordings are compared. What comes from a pipe is of the kind of the other file. Raises Trouble
+    """Returns whether recordings are compared. What comes from a pipe is of the kind of the other file. Raises ToolError
     if one file is a recording and the other is not."""
     found = [is_recording(path) for path in paths]
     if any(found) and any(not it and os.path.isfile(path) for it, path in zip(found, paths)):
-        raise Trouble('%s and %s: one is a recording' % paths)
+        raise ToolError('%s and %s: one is a recording' % paths)
     return any(found)
 
 
@@ -68,13 +68,13 @@ def shape_text(grid: Grid) -> str:
 
 
 def grids_of_files(paths: Tuple[str, str]) -> List[Grid]:
-    """Returns the cells of two dumps or pictures. Raises Trouble if they are not of one kind and shape."""
+    """Returns the cells of two dumps or pictures. Raises ToolError if they are not of one kind and shape."""
     files = [(path, *load_file(path)) for path in paths]
     grids = [about(path, Grid, data, is_picture) for path, data, is_picture in files]
     if files[0][2] != files[1][2]:
-        raise Trouble('%s and %s: a dump and a picture' % paths)
+        raise ToolError('%s and %s: a dump and a picture' % paths)
     if shape_text(grids[0]) != shape_text(grids[1]):
-        raise Trouble('%s and %s: %s and %s' % (*paths, *map(shape_text, grids)))
+        raise ToolError('%s and %s: %s and %s' % (*paths, *map(shape_text, grids)))
     return grids
 
 
@@ -116,5 +116,5 @@ def run(words: argparse.Namespace) -> int:
     if not are_recordings(paths):
         return show_difference(words, grids_of_files(paths))
     if words.tolerance:
-        raise Trouble('--tolerance is for dumps of video memory and pictures')
+        raise ToolError('--tolerance is for dumps of video memory and pictures')
     return compare_recordings(words)

@@ -23,7 +23,7 @@ from concurrent.futures import ThreadPoolExecutor
 from typing import List
 
 from psxgpu import progress
-from psxgpu.command import DIFFERENT, SAME, TROUBLE, Trouble, decimal, write_whole
+from psxgpu.command import DIFFERENT, SAME, TROUBLE, ToolError, decimal, write_whole
 from psxgpu.conformance import folder, judging, reducing, report
 from psxgpu.conformance.chapters import CHAPTERS
 from psxgpu.conformance.judging import Judge, Verdict
@@ -66,9 +66,9 @@ def chosen(names: List[str]) -> List[Test]:
     tests = every_test()
     for name in names:
         if name in WITHDRAWN:
-            raise Trouble('%s is withdrawn: %s' % (name, WITHDRAWN[name]))
+            raise ToolError('%s is withdrawn: %s' % (name, WITHDRAWN[name]))
         if not any(name in (test.chapter, test.full_name) for test in tests):
-            raise Trouble('%s: no chapter or test has this name: --list has them' % name)
+            raise ToolError('%s: no chapter or test has this name: --list has them' % name)
     return [test for test in tests if not names or test.chapter in names or test.full_name in names]
 
 
@@ -132,7 +132,7 @@ def run(words: argparse.Namespace) -> int:
         for line in folder.write(tests, words.write, folder.found_program(words.player), words.exe):
             print('%s: %s' % (words.write, line), file=sys.stderr)
     elif words.tested is None:
-        raise Trouble('name a player: `psxgpu conform --help` explains the arguments')
+        raise ToolError('name a player: `psxgpu conform --help` explains the arguments')
     else:
         return test_player(words, tests)
     return SAME

@@ -22,7 +22,7 @@ import shlex
 import sys
 from typing import List
 
-from psxgpu.command import DIFFERENT, SAME, Trouble, decimal, writing
+from psxgpu.command import DIFFERENT, SAME, ToolError, decimal, writing
 from psxgpu.corpus import report
 from psxgpu.corpus.captures import NAMES, Capture, captures_of
 from psxgpu.corpus.findings import compare_sums
@@ -77,7 +77,7 @@ def player_of(words: argparse.Namespace, marks: bool = False) -> Player:
     """Returns the player that the arguments name."""
     gives = [it for it in words.gives.split(',') if it]
     if not gives or not set(gives) <= set(USUAL):
-        raise Trouble('--gives %s: name some of %s' % (words.gives, ','.join(USUAL)))
+        raise ToolError('--gives %s: name some of %s' % (words.gives, ','.join(USUAL)))
     if marks and 'frames' in gives:
         gives[gives.index('frames')] = 'marks'
     return Player(words.player or shlex.quote(find()), words.limit, gives)
@@ -126,10 +126,10 @@ def join(words: argparse.Namespace) -> int:
     for path in words.places[1:]:
         sums = read_sums(path)
         if (sums.player, sums.gives) != (whole.player, whole.gives):
-            raise Trouble('%s: played by %s, and %s by %s' % (path, sums.player, words.places[0], whole.player))
+            raise ToolError('%s: played by %s, and %s by %s' % (path, sums.player, words.places[0], whole.player))
         for name, row in sums.rows.items():
             if whole.rows.setdefault(name, row).block() != row.block():
-                raise Trouble('%s: a second capture of the name %s, with other sums' % (path, name))
+                raise ToolError('%s: a second capture of the name %s, with other sums' % (path, name))
     write_text(words.golden, whole.text())
     print(report.counted(len(whole.rows)))
     return SAME
@@ -139,12 +139,12 @@ def run(words: argparse.Namespace) -> int:
     """Does the action."""
     missing = ['--' + name for name in WANTED[words.action] if getattr(words, name) is None]
     if missing:
-        raise Trouble('%s needs %s' % (words.action, ' and '.join(missing)))
+        raise ToolError('%s needs %s' % (words.action, ' and '.join(missing)))
     if words.reduce and not words.reference:
-        raise Trouble('--reduce needs --reference, a player that writes what was recorded')
+        raise ToolError('--reduce needs --reference, a player that writes what was recorded')
     if words.action == 'split':
         if len(words.places) > 1:
-            raise Trouble('split takes one capture')
+            raise ToolError('split takes one capture')
         split(words.places[0], words.parts, words.into, player_of(words), MARK if words.marks else FLIP)
     elif words.action == 'glue':
         with writing('-', words.places[1:], is_text=words.places[0] != 'frames') as out:

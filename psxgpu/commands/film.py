@@ -10,7 +10,7 @@ to it. ffmpeg makes it, in a format that video players show (yuv420p). Status: 0
 import argparse
 
 from psxgpu import progress
-from psxgpu.command import Trouble, decimal, title
+from psxgpu.command import ToolError, decimal, title
 from psxgpu.files import plain
 from psxgpu.film import encode, find_ffmpeg, frames_of
 from psxgpu.output import refuse_inputs, written_by_name
@@ -37,8 +37,8 @@ def run(words: argparse.Namespace) -> None:
     with plain(words.capture) as path, written_by_name(words.film, [words.capture]) as target:
         try:
             ends, (width, height) = frames_of(program, path, words.flips)
-        except Trouble as trouble:
-            raise Trouble('%s: %s' % (name, trouble)) from trouble
+        except ToolError as error:
+            raise ToolError('%s: %s' % (name, error)) from error
         # Both sides of a picture of yuv420p are even.
         size = (words.scale * width + 1) // 2 * 2, (words.scale * height + 1) // 2 * 2
         with progress.shown(name, is_quiet=True), player.playing(program, ['frames', *ends], path) as run_of_frames:

@@ -12,7 +12,7 @@ stays.
 import argparse
 from typing import Iterable, Iterator
 
-from psxgpu.command import Trouble, decimal, title, writing
+from psxgpu.command import ToolError, decimal, title, writing
 from psxgpu.files import opened
 from psxgpu.stream import HEADS, Record, Stream, count_of, encode, first_events, later_events
 
@@ -49,4 +49,4 @@ def run(words: argparse.Namespace) -> None:
             target.write(encode(*record))
         target.write(bytes(4))
         if counted.events < words.events:
-            raise Trouble('%s: it has %d events' % (name, counted.events))
+            raise ToolError('%s: it has %d events' % (name, counted.events))

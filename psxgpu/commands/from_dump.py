@@ -24,7 +24,7 @@ from psxgpu.dumps.reader import Dump
 from psxgpu.dumps.translation import END, Translation
 from psxgpu.output import writing
 from psxgpu.packing import Damaged, unpacked
-from psxgpu.trouble import Trouble, title
+from psxgpu.errors import ToolError, title
 
 
 def arguments(parser: argparse.ArgumentParser) -> None:
@@ -49,7 +49,7 @@ def run(words: argparse.Namespace) -> None:
     """Writes the capture. The one of a damaged dump is finished first."""
     name, damaged = title(words.dump), None
     if words.reads == words.output:
-        raise Trouble('%s: named for the capture and for the reads' % words.reads)
+        raise ToolError('%s: named for the capture and for the reads' % words.reads)
     with unpacked(words.dump) as source:
         dump = Dump(source, name)
         with writing(words.output, [words.dump]) as target, lines_into(words.reads, words.dump) as reads:

@@ -27,7 +27,7 @@ error.
 import argparse
 import tempfile
 
-from psxgpu.command import Trouble, pour, reading, title, writing
+from psxgpu.command import ToolError, pour, reading, title, writing
 from psxgpu.log import Bad, from_log, lines_of
 from psxgpu.output import refuse_inputs
 from psxgpu.stream import HEADS
@@ -49,7 +49,7 @@ def run(words: argparse.Namespace) -> None:
             try:
                 log = from_log(lines_of(source, name), records)
             except Bad as bad:
-                raise Trouble('%s: %s' % (name, bad)) from bad
+                raise ToolError('%s: %s' % (name, bad)) from bad
         records.seek(0)
         with writing(words.capture, log.inputs) as target:
             target.write(HEADS[log.needs])

@@ -19,7 +19,7 @@ from __future__ import annotations
 import argparse
 from typing import Optional, Tuple
 
-from psxgpu.command import Trouble, decimal, title
+from psxgpu.command import ToolError, decimal, title
 from psxgpu.heat.counting import Counter, Frame
 from psxgpu.heat.picture import Counts, counts_of, picture
 from psxgpu.image import write_image
@@ -75,9 +75,9 @@ def run(words: argparse.Namespace) -> None:
         counter.go()
         number, counts = frames(counter, words.frame)
     if words.frame and words.frame != number:
-        raise Trouble('%s: it has %d frames' % (name, len(counter.frames)))
+        raise ToolError('%s: it has %d frames' % (name, len(counter.frames)))
     if words.frame and counts is None:
-        raise Trouble('%s: frame %d covers no cell' % (name, words.frame))
+        raise ToolError('%s: frame %d covers no cell' % (name, words.frame))
     if counts is None:
         return
     print('frame %d, cells %d %d %d %d; by how often: %s' % (

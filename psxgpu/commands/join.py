@@ -10,7 +10,7 @@ Status: 0 written, 2 an error, also if the result has more than 2^30 bytes, whic
 import argparse
 from typing import Dict, Iterable
 
-from psxgpu.command import Trouble, title, writing
+from psxgpu.command import ToolError, title, writing
 from psxgpu.files import opened
 from psxgpu.stream import HEADS, Stream, encode
 
@@ -25,20 +25,20 @@ def arguments(parser: argparse.ArgumentParser) -> None:
 
 
 def version_of(paths: Iterable[str]) -> int:
-    """Returns the version of the whole. Raises Trouble if the captures cannot be joined."""
+    """Returns the version of the whole. Raises ToolError if the captures cannot be joined."""
     versions: Dict[int, str] = {}
     for path in paths:
         with opened(path) as file:
             versions[Stream(file, title(path)).version] = path
     if 3 in versions and len(versions) > 1:
-        raise Trouble('%s and %s: 1024 and 512 rows' % (versions[3], versions[min(versions)]))
+        raise ToolError('%s and %s: 1024 and 512 rows' % (versions[3], versions[min(versions)]))
     return max(versions)
 
 
 def run(words: argparse.Namespace) -> None:
     """Writes the whole."""
     if '-' in words.captures:
-        raise Trouble('standard input: name files, since each is read twice')
+        raise ToolError('standard input: name files, since each is read twice')
     version, size = version_of(words.captures), 12
     with writing(words.output, words.captures if words.output == '-' else ()) as target:
         target.write(HEADS[version])
@@ -50,4 +50,4 @@ def run(words: argparse.Namespace) -> None:
                     target.write(data)
         target.write(bytes(4))
         if size > MOST_BYTES:
-            raise Trouble('the whole has %d bytes: a player refuses more than 2^30' % size)
+            raise ToolError('the whole has %d bytes: a player refuses more than 2^30' % size)

@@ -15,7 +15,7 @@ import tempfile
 from typing import IO, Iterator, Tuple
 
 from psxgpu import progress
-from psxgpu.command import Trouble, pour, writing
+from psxgpu.command import ToolError, pour, writing
 from psxgpu.mending import whole_of
 from psxgpu.packing import MOST_FIRST, PACKED, Damaged, packing, unpacked
 
@@ -66,9 +66,9 @@ def run(words: argparse.Namespace) -> None:
     """Writes the whole recording, and prints whether it was whole."""
     output = words.output or words.capture
     if output in ('-', '/dev/stdout'):
-        raise Trouble('%s: name a file' % output)
+        raise ToolError('%s: name a file' % output)
     if words.output is None and is_packed(words.capture):
-        raise Trouble('%s is packed: name an output, as in psxgpu mend %s whole.capture' % ((words.capture,) * 2))
+        raise ToolError('%s is packed: name an output, as in psxgpu mend %s whole.capture' % ((words.capture,) * 2))
     with recording(words.capture) as (file, damage):
         size, rest = whole_of(file, words.capture)
         if words.output or rest:

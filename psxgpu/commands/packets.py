@@ -16,7 +16,7 @@ import sys
 from typing import List
 
 from psxgpu import progress
-from psxgpu.command import SAME, TROUBLE, Trouble, decimal, reading, title
+from psxgpu.command import SAME, TROUBLE, ToolError, decimal, reading, title
 from psxgpu.files import plain
 from psxgpu.packets.control import class_name
 from psxgpu.packets.listing import NAMES, Entry, Listing, holds
@@ -85,7 +85,7 @@ def write_entries(listing: Listing, words: argparse.Namespace, is_whole: bool) -
 def run(words: argparse.Namespace) -> int:
     """Prints the list."""
     if words.events and words.events[0] > words.events[1]:
-        raise Trouble('--events %d %d: the first comes after the last' % tuple(words.events))
+        raise ToolError('--events %d %d: the first comes after the last' % tuple(words.events))
     program, name = player.find(words.player), title(words.capture)
     is_whole = not (words.name or words.cell or words.events)
     with plain(words.capture) as path:
@@ -98,5 +98,5 @@ def run(words: argparse.Namespace) -> int:
         show_refusal(listing.refusal)
         return TROUBLE
     if not count and not is_whole:
-        raise Trouble('%s: nothing to list: no packet or event is as asked for' % name)
+        raise ToolError('%s: nothing to list: no packet or event is as asked for' % name)
     return SAME

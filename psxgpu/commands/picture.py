@@ -10,7 +10,7 @@ same dump. A picture whose name ends in .ppm is written as PPM. Status: 0 writte
 import argparse
 from typing import Sequence
 
-from psxgpu.command import Trouble, decimal
+from psxgpu.command import ToolError, decimal
 from psxgpu.image import Image, about, load_file, read_picture, write_image
 from psxgpu.output import refuse_inputs
 from psxgpu.vram import WIDTH, cells_of, palette_of, shown, texels
@@ -32,7 +32,7 @@ def draw(cells: Sequence[int], words: argparse.Namespace) -> Image:
     height = len(cells) // WIDTH
     x, y, w, h = words.box or (0, 0, WIDTH, height)
     if not (w and h and x + w <= WIDTH and y + h <= height):
-        raise Trouble('box: %d %d %d %d is not within %d by %d' % (x, y, w, h, WIDTH, height))
+        raise ToolError('box: %d %d %d %d is not within %d by %d' % (x, y, w, h, WIDTH, height))
     part = [cell for row in range(y, y + h) for cell in cells[WIDTH * row + x:WIDTH * row + x + w]]
     if words.bits == 15:
         return Image(w, h, shown(part))
@@ -45,7 +45,7 @@ def run(words: argparse.Namespace) -> None:
     data, is_picture = load_file(words.source)
     if is_picture:
         if words.box or words.palette or words.bits != 15:
-            raise Trouble('%s: a picture, and --bits, --palette and --box are for dumps' % words.source)
+            raise ToolError('%s: a picture, and --bits, --palette and --box are for dumps' % words.source)
         image = about(words.source, read_picture, data)
     else:
         image = draw(about(words.source, cells_of, data), words)

@@ -20,7 +20,7 @@ import subprocess
 from typing import Iterator, List, Optional, Tuple
 
 from psxgpu import __version__
-from psxgpu.command import DIFFERENT, SAME, Trouble, read_whole
+from psxgpu.command import DIFFERENT, SAME, ToolError, read_whole
 from psxgpu.machine.library import Missing, library
 from psxgpu.players import player
 from psxgpu.players.named import CommandPlayer, LibraryPlayer, Player
@@ -37,21 +37,21 @@ def arguments(parser: argparse.ArgumentParser) -> None:
 
 
 def version_of(program: str) -> str:
-    """Returns the first line of `--version`. Raises Trouble if the program does not run."""
+    """Returns the first line of `--version`. Raises ToolError if the program does not run."""
     try:
         done = subprocess.run([program, '--version'], capture_output=True, text=True, timeout=SECONDS)
     except (OSError, subprocess.SubprocessError) as error:
-        raise Trouble('%s does not run: %s' % (program, error)) from error
+        raise ToolError('%s does not run: %s' % (program, error)) from error
     if done.returncode:
-        raise Trouble('%s does not run: %s' % (program, player.failure(done.returncode, done.stderr.encode())))
+        raise ToolError('%s does not run: %s' % (program, player.failure(done.returncode, done.stderr.encode())))
     return (done.stdout.splitlines() or ['a program without a version'])[0]
 
 
 def build_of(words: argparse.Namespace) -> Tuple[Player, str]:
-    """Returns the player to try and its version. Raises Trouble if there is neither a program nor a library."""
+    """Returns the player to try and its version. Raises ToolError if there is neither a program nor a library."""
     try:
         program = None if words.library else player.find(words.player)
-    except Trouble:
+    except ToolError:
         if words.player:
             raise
         program = None
@@ -60,15 +60,15 @@ def build_of(words: argparse.Namespace) -> Tuple[Player, str]:
             return LibraryPlayer('library'), '%s of psxgpu %s' % (os.path.basename(library().path), __version__)
         except Missing as missing:
             also = '' if words.library else 'no psxgpu_tool, and '
-            raise Trouble('%s%s: name a program with --player' % (also, missing)) from None
+            raise ToolError('%s%s: name a program with --player' % (also, missing)) from None
     return CommandPlayer(program, appends=True), version_of(program)
 
 
 def outputs() -> Iterator[Tuple[str, str, bytes]]:
-    """Yields the name of each output, the command and the capture. Raises Trouble if the captures are not there."""
+    """Yields the name of each output, the command and the capture. Raises ToolError if the captures are not there."""
     paths = sorted(glob.glob(os.path.join(FOLDER, '*.capture')))
     if not paths:
-        raise Trouble('%s: the captures are missing: install psxgpu again' % FOLDER)
+        raise ToolError('%s: the captures are missing: install psxgpu again' % FOLDER)
     for path in paths:
         for command in COMMANDS:
             yield '%s.%s' % (os.path.splitext(path)[0], command), command, read_whole(path)

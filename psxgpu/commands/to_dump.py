@@ -22,7 +22,7 @@ from psxgpu.packing import packing
 from psxgpu.players import player
 from psxgpu.players.flat import flattened
 from psxgpu.stream import Stream
-from psxgpu.trouble import title
+from psxgpu.errors import title
 
 
 def arguments(parser: argparse.ArgumentParser) -> None:

@@ -16,7 +16,7 @@ import tempfile
 from typing import Dict, List, Optional, Sequence
 
 from psxgpu import progress
-from psxgpu.command import Trouble
+from psxgpu.command import ToolError
 from psxgpu.conformance import programs
 from psxgpu.conformance.released import expectations
 from psxgpu.conformance.suite import Test
@@ -77,7 +77,7 @@ class Folder:
             return None
         try:
             return executable(test.data, check=True, tool=self.program)
-        except Trouble:
+        except ToolError:
             return None
 
     def test(self, test: Test) -> None:
@@ -118,10 +118,10 @@ class Folder:
 
 
 def found_program(given: Optional[str]) -> Optional[str]:
-    """Returns the path of psxgpu_tool, or None if it is not there. Raises Trouble if the one that is given is not."""
+    """Returns the path of psxgpu_tool, or None if it is not there. Raises ToolError if the one that is given is not."""
     try:
         return player.find(given)
-    except Trouble:
+    except ToolError:
         if given:
             raise
         return None

@@ -5,7 +5,7 @@ import os
 import tempfile
 from typing import List, Optional
 
-from psxgpu.command import Trouble
+from psxgpu.command import ToolError
 from psxgpu.conformance.answers import SECONDS
 from psxgpu.conformance.judging import DIFFERS, FAILED, Verdict
 from psxgpu.players import player
@@ -32,7 +32,7 @@ def reduce_one(verdict: Verdict, ours: Player, theirs: Player, name: str, progra
 
 
 def reduce_all(verdicts: List[Verdict], theirs: Player, folder: str, given: Optional[str]) -> List[str]:
-    """Reduces each failure whose cells or words differ. Returns a line for each. Raises Trouble without psxgpu_tool."""
+    """Reduces each failure whose cells or words differ. Returns a line for each. Raises ToolError without psxgpu_tool."""
     program = player.find(given)
     ours = player_of(program, appends=True)
     os.makedirs(folder, exist_ok=True)
@@ -43,7 +43,7 @@ def reduce_all(verdicts: List[Verdict], theirs: Player, folder: str, given: Opti
         name = os.path.join(folder, verdict.test.full_name.replace('/', '-'))
         try:
             line = reduce_one(verdict, ours, theirs, name, program)
-        except Trouble as error:
+        except ToolError as error:
             line = '%s: not reduced: %s' % (verdict.test.full_name, error)
         out.append(line or '%s: psxgpu_tool does the same' % verdict.test.full_name)
     return out

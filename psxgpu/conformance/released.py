@@ -1,6 +1,6 @@
 """The released tests: a test keeps its name and what it expects, or is withdrawn by name.
 
-SUITE is raised when tests are added or withdrawn. conformance/expected.tsv of the checkout has the line of each test that
+SUITE is raised when tests are added or withdrawn. suite_trials/expected.tsv of the checkout has the line of each test that
 was released.
 """
 from __future__ import annotations

@@ -24,7 +24,7 @@ def executable(capture: bytes, check: bool = False, blanks: str = 'marks', packs
     blanks: it waits for a vertical blank at 'marks', at 'flips' or at 'none'.
     packs: its orders are packed, even if there is room for them as they are.
     tool: the path of psxgpu_tool; else that of $PLAYER, of the path, or the one that is built here.
-    Trouble, with the reason, if a console cannot run the capture.
+    ToolError, with the reason, if a console cannot run the capture.
     """
     with tempfile.NamedTemporaryFile(prefix='psxgpu') as file:
         file.write(capture)

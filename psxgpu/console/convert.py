@@ -3,7 +3,7 @@ import os
 import tempfile
 from typing import List, NamedTuple, Optional
 
-from psxgpu.command import Trouble
+from psxgpu.command import ToolError
 from psxgpu.console import sums
 from psxgpu.console.image import Image, NoRoom
 from psxgpu.console.plan import Plan
@@ -52,7 +52,7 @@ def build(flat: Source, choices: Choices, cells: Optional[bytes]) -> Program:
 
 
 def build_smallest(flat: Source, choices: Choices) -> Program:
-    """Returns the program of a flat capture, packed if there is no room for it otherwise. Trouble if there is none."""
+    """Returns the program of a flat capture, packed if there is no room for it otherwise. ToolError if there is none."""
     cells = flat.answer('vram') if choices.check else None
     try:
         return build(flat, choices, cells)
@@ -63,9 +63,9 @@ def build_smallest(flat: Source, choices: Choices) -> Program:
 
 
 def make(source: Source, choices: Choices) -> Program:
-    """Returns the test program of a capture. Trouble, with the reason, if there is none."""
+    """Returns the test program of a capture. ToolError, with the reason, if there is none."""
     if source.version() == 3:
-        raise Trouble('%s: version 3 has 1024 rows of video memory, a console 512' % source.name)
+        raise ToolError('%s: version 3 has 1024 rows of video memory, a console 512' % source.name)
     with tempfile.TemporaryDirectory(prefix='psxgpu') as folder:
         flat = source._replace(path=os.path.join(folder, 'flat'))
         source.play(flat.path, 'flat')
@@ -74,5 +74,5 @@ def make(source: Source, choices: Choices) -> Program:
                 whole, flat = flat, flat._replace(path=os.path.join(folder, 'stretch'))
                 write_stretch(whole, choices.frames, flat.path)
             return build_smallest(flat, choices)
-        except Trouble as trouble:
-            raise Trouble('%s: %s' % (source.name, trouble)) from trouble
+        except ToolError as error:
+            raise ToolError('%s: %s' % (source.name, error)) from error

@@ -4,7 +4,7 @@ import struct
 from array import array
 from typing import Iterable, Optional, Sequence
 
-from psxgpu.command import Trouble
+from psxgpu.command import ToolError
 from psxgpu.console import page, segments, sums
 from psxgpu.console.assembler import assemble
 from psxgpu.console.orders import OF_TESTS, WORDED, Kind, Orders
@@ -53,7 +53,7 @@ def source(cells: Optional[bytes] = None, data: Optional[str] = None) -> str:
     return text + '.align 2\norders:\n'
 
 
-class NoRoom(Trouble):
+class NoRoom(ToolError):
     """The program is larger than main memory."""
 
 

@@ -2,7 +2,7 @@
 from array import array
 from typing import List, NamedTuple
 
-from psxgpu.command import Trouble
+from psxgpu.command import ToolError
 from psxgpu.console.orders import Kind, Orders
 from psxgpu.console.unfinished import Unfinished
 from psxgpu.packets.split import RESETS, name_and_length
@@ -32,7 +32,7 @@ class Plan(Unfinished):
         self.late = self.replaced = self.loose = 0
 
     def take(self, kind: int, count: int, words: 'array[int]') -> None:
-        """Appends the orders of a record. Trouble if it is none of a flat capture."""
+        """Appends the orders of a record. ToolError if it is none of a flat capture."""
         if kind == GP0:
             self.gp0(words)
         elif kind == GP1:
@@ -40,7 +40,7 @@ class Plan(Unfinished):
         elif kind in (READ, SKIP):
             self.read(count)
         elif kind != STAT:
-            raise Trouble('a record of kind %d is not flat' % kind)
+            raise ToolError('a record of kind %d is not flat' % kind)
 
     def gp0(self, words: 'array[int]') -> None:
         """Appends words of GP0, each as what it is: data, a vertex of a polyline, part of a packet."""

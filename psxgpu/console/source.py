@@ -4,7 +4,7 @@ import subprocess
 import tempfile
 from typing import NamedTuple
 
-from psxgpu.command import Trouble
+from psxgpu.command import ToolError
 from psxgpu.players import player
 from psxgpu.stream import Stream
 
@@ -16,16 +16,16 @@ class Source(NamedTuple):
     name: str
 
     def version(self) -> int:
-        """Returns the version of the capture. Trouble if it is none."""
+        """Returns the version of the capture. ToolError if it is none."""
         with open(self.path, 'rb') as file:
             return Stream(file, self.name).version
 
     def play(self, path: str, *words: str) -> None:
-        """Writes into a file what a command of psxgpu_tool writes. Trouble if it refuses the capture."""
+        """Writes into a file what a command of psxgpu_tool writes. ToolError if it refuses the capture."""
         with open(self.path, 'rb') as source, open(path, 'wb') as target:
             done = subprocess.run([self.tool, *words], stdin=source, stdout=target, stderr=subprocess.PIPE)
         if done.returncode:
-            raise Trouble('%s: %s' % (self.name, player.failure(done.returncode, done.stderr)))
+            raise ToolError('%s: %s' % (self.name, player.failure(done.returncode, done.stderr)))
 
     def answer(self, *words: str) -> bytes:
         """Returns what a command of psxgpu_tool writes."""

@@ -3,7 +3,7 @@ import struct
 from typing import IO, List, NamedTuple, Optional, Tuple
 
 from psxgpu.capture import Capture
-from psxgpu.command import Trouble
+from psxgpu.command import ToolError
 from psxgpu.console.source import Source
 from psxgpu.console.unfinished import Unfinished
 from psxgpu.players import player
@@ -33,7 +33,7 @@ def frame_opcode(flat: Source) -> int:
 
 def events_of(flat: Source, frames: Frames) -> Tuple[int, int]:
     """Returns how many events are before a stretch, and how many up to its end. It begins with nothing unfinished: if
-    something is after frame `first`, then after it is finished. Trouble if there is no such stretch."""
+    something is after frame `first`, then after it is finished. ToolError if there is no such stretch."""
     opcode, unfinished = frame_opcode(flat), Unfinished()
     events = seen = 0
     begin = 0 if frames.first == 0 else None
@@ -54,9 +54,9 @@ def events_of(flat: Source, frames: Frames) -> Tuple[int, int]:
             if is_end and frames.number is not None and seen == frames.first + frames.number:
                 break
     if seen < frames.first:
-        raise Trouble('it has %d frames' % seen)
+        raise ToolError('it has %d frames' % seen)
     if begin is None:
-        raise Trouble('what is unfinished after frame %d stays so' % frames.first)
+        raise ToolError('what is unfinished after frame %d stays so' % frames.first)
     return begin, events
 
 
@@ -74,7 +74,7 @@ def state(snapshot: IO[bytes]) -> List[bytes]:
 
 
 def write_stretch(flat: Source, frames: Frames, path: str) -> None:
-    """Writes a stretch of a flat capture as a capture. Trouble if there is none."""
+    """Writes a stretch of a flat capture as a capture. ToolError if there is none."""
     begin, end = events_of(flat, frames)
     with open(path, 'wb') as target, open(flat.path, 'rb') as file:
         target.write(HEADS[2])

@@ -4,7 +4,7 @@ import os
 from dataclasses import dataclass
 from typing import Dict, Iterable, Iterator, List, Sequence, Tuple
 
-from psxgpu.command import Trouble
+from psxgpu.command import ToolError
 from psxgpu.packing import ENDINGS
 
 # Names of captures. Files whose packed form ends in .gz, .xz or .zst are captures, too.
@@ -27,12 +27,12 @@ def captures_of(places: Iterable[str], names: Sequence[str] = NAMES) -> List[Cap
         for name, path in files_of(place, names):
             name = name.replace(os.sep, '/')
             if name in found:
-                raise Trouble('two captures of the name %s: %s and %s' % (name, found[name].path, path))
+                raise ToolError('two captures of the name %s: %s and %s' % (name, found[name].path, path))
             if '\n' in name:
-                raise Trouble('%r: a file of sums cannot have a name of two lines' % path)
+                raise ToolError('%r: a file of sums cannot have a name of two lines' % path)
             found[name] = Capture(name, path, os.path.getsize(path))
     if not found:
-        raise Trouble('%s: no capture (%s; also with %s)' % (' '.join(places), ' '.join(names), ' '.join(ENDINGS)))
+        raise ToolError('%s: no capture (%s; also with %s)' % (' '.join(places), ' '.join(names), ' '.join(ENDINGS)))
     return [found[name] for name in sorted(found)]
 
 

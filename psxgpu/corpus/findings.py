@@ -2,7 +2,7 @@
 from dataclasses import dataclass, field
 from typing import List, Optional, Sequence, Tuple
 
-from psxgpu.command import Trouble
+from psxgpu.command import ToolError
 from psxgpu.corpus.sums import Frame, Row, Sums
 
 FAULTS = ('refused', 'fails', 'hangs', 'crashes')
@@ -87,11 +87,11 @@ def compare_rows(name: str, want: Optional[Row], got: Optional[Row], gives: Sequ
 
 
 def compare_sums(want: Sums, got: Sums) -> List[Finding]:
-    """Returns the findings of all captures that one of both files has, by name. Raises Trouble if nothing can be
+    """Returns the findings of all captures that one of both files has, by name. Raises ToolError if nothing can be
     compared."""
     gives = [it for it in want.gives if it in got.gives]
     if not gives:
-        raise Trouble('nothing to compare: recorded are %s, and %s are played'
+        raise ToolError('nothing to compare: recorded are %s, and %s are played'
                       % (' and '.join(want.gives), ' and '.join(got.gives)))
     return [compare_rows(name, want.rows.get(name), got.rows.get(name), gives)
             for name in sorted({**want.rows, **got.rows})]

@@ -11,7 +11,7 @@ import os
 import re
 from typing import BinaryIO, List, Optional, Sequence, Tuple
 
-from psxgpu.command import Trouble, reading
+from psxgpu.command import ToolError, reading
 from psxgpu.corpus.scan import copy_bytes
 
 TAIL = 1 << 12
@@ -77,20 +77,20 @@ def number_of(path: str) -> Optional[int]:
 
 
 def check_numbers(paths: Sequence[str]) -> None:
-    """Raises Trouble unless the parts are there from the first to the last, in order. The last is the last one only if
+    """Raises ToolError unless the parts are there from the first to the last, in order. The last is the last one only if
     its folder has no file of the next part."""
     numbers = [number_of(path) for path in paths]
     if not any(numbers):
         return
     for wanted, (path, number) in enumerate(zip(paths, numbers), 1):
         if number is None:
-            raise Trouble('%s: its name does not begin with the number of its part, as %03d.' % (path, wanted))
+            raise ToolError('%s: its name does not begin with the number of its part, as %03d.' % (path, wanted))
         if number != wanted:
-            raise Trouble('%s: part %d, expected part %d: one is missing, or they are not in order' % (path, number, wanted))
+            raise ToolError('%s: part %d, expected part %d: one is missing, or they are not in order' % (path, number, wanted))
     folder = os.path.dirname(paths[-1]) or '.'
     for name in sorted(os.listdir(folder)):
         if number_of(name) == len(paths) + 1:
-            raise Trouble('%s: part %d is missing' % (os.path.join(folder, name), len(paths) + 1))
+            raise ToolError('%s: part %d is missing' % (os.path.join(folder, name), len(paths) + 1))
 
 
 def first_event(file: BinaryIO) -> Optional[int]:
@@ -113,7 +113,7 @@ ENDS = {'play': end_of_words, 'sums': end_of_sums, 'frames': end_of_frames, 'lis
 def glue(word: str, paths: Sequence[str], out: BinaryIO) -> None:
     """Writes the whole of what a player wrote for each part. `word`: its command."""
     if word not in ENDS:
-        raise Trouble('glue %s: one of %s' % (word, ' '.join(ENDS)))
+        raise ToolError('glue %s: one of %s' % (word, ' '.join(ENDS)))
     check_numbers(paths)
     done = 0
     for k, path in enumerate(paths, 1):
@@ -121,11 +121,11 @@ def glue(word: str, paths: Sequence[str], out: BinaryIO) -> None:
             try:
                 end = ENDS[word](file) if k < len(paths) else file.seek(0, os.SEEK_END)
             except (ValueError, IndexError) as error:
-                raise Trouble('%s: not what `%s` writes: %s' % (path, word, error)) from error
+                raise ToolError('%s: not what `%s` writes: %s' % (path, word, error)) from error
             if word in ('list', 'sums'):
                 event = first_event(file)
                 if event is not None and event <= done:
-                    raise Trouble('%s: event %d, after event %d of the parts before it: not in order' % (path, event, done))
+                    raise ToolError('%s: event %d, after event %d of the parts before it: not in order' % (path, event, done))
                 done = last_event(file, end) or done
             file.seek(0)
             copy_bytes(file, out, end)

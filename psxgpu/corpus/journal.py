@@ -6,7 +6,7 @@ import sys
 import time
 from typing import IO, Dict, Generator, Optional, Sequence, Set
 
-from psxgpu.command import Trouble, named, reason_of
+from psxgpu.command import ToolError, named, reason_of
 from psxgpu.corpus.captures import Capture
 from psxgpu.corpus.sums import Row, Sums, open_text, read_sums, write_text
 from psxgpu.corpus.play import Player, size_and_sum
@@ -61,7 +61,7 @@ class Journal:
         if elsewhere:
             kept = read_sums(elsewhere)
             if (kept.player, kept.gives) != (self.sums.player, self.sums.gives):
-                raise Trouble('%s: played by %s for %s; here is %s for %s'
+                raise ToolError('%s: played by %s for %s; here is %s for %s'
                               % (elsewhere, kept.player, ' '.join(kept.gives), self.sums.player,
                                  ' '.join(player.gives)))
             self.keep(kept, captures)
@@ -108,7 +108,7 @@ def play_all(player: Player, captures: Sequence[Capture], jobs: int) -> Generato
                 it.cancel()
 
 
-class Nothing(Trouble):
+class Nothing(ToolError):
     """The player played no capture."""
 
 
@@ -142,6 +142,6 @@ def play_into(path: str, player: Player, captures: Sequence[Capture], jobs: int,
         raise
     except (OSError, KeyboardInterrupt) as error:
         text = 'interrupted' if isinstance(error, KeyboardInterrupt) else reason_of(error)
-        raise Trouble('%s; %d of %d captures are kept in %s: run it again to go on'
+        raise ToolError('%s; %d of %d captures are kept in %s: run it again to go on'
                       % (text, len(rows), len(captures), journal.path)) from error
     return journal.sums

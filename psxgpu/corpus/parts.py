@@ -4,7 +4,7 @@ import shutil
 import tempfile
 from typing import List, Sequence, Tuple
 
-from psxgpu.command import Trouble, writing
+from psxgpu.command import ToolError, writing
 from psxgpu.corpus.play import Player
 from psxgpu.corpus.scan import FLIP, copy_first, frames
 from psxgpu.files import plain
@@ -43,7 +43,7 @@ def write_part(path: str, name: str, events: Tuple[int, int], target: str, playe
             first.seek(0)
             with player.run('cut %d' % before, first) as run:
                 if run.end != 'played':
-                    raise Trouble('%s: cut %d: %s' % (name, before, run.end))
+                    raise ToolError('%s: cut %d: %s' % (name, before, run.end))
                 shutil.copyfileobj(run.out, out)
 
 
@@ -51,11 +51,11 @@ def split(path: str, parts: int, folder: str, player: Player, opcode: int = FLIP
     """Writes the parts of a recording into a folder, and prints their names."""
     with plain(path) as whole:
         if is_snapshot(whole):
-            raise Trouble('%s: a snapshot: `split` takes a capture' % path)
+            raise ToolError('%s: a snapshot: `split` takes a capture' % path)
         try:
             ends = places(whole, parts, opcode)
         except ValueError as error:
-            raise Trouble('%s: %s' % (path, error)) from error
+            raise ToolError('%s: %s' % (path, error)) from error
         os.makedirs(folder, exist_ok=True)
         names = ['%03d.%s' % (k, 'snapshot' if k > 1 else 'capture') for k in range(1, len(ends) + 1)]
         for name in names:

@@ -6,7 +6,7 @@ import tempfile
 import time
 from typing import IO, Iterable, List, Optional, Sequence, Tuple
 
-from psxgpu.command import Trouble
+from psxgpu.command import ToolError
 from psxgpu.corpus.captures import Capture
 from psxgpu.corpus.one_run import PIECE, Run
 from psxgpu.corpus.sums import Frame, Row
@@ -31,7 +31,7 @@ class Player:
         self.command = CommandPlayer(command, appends=True)
         self.program = self.command.program()
         if self.program is None:
-            raise Trouble('%s: there is no such player' % command)
+            raise ToolError('%s: there is no such player' % command)
         self.limit = limit
         self.has_sums = self.answer('sums') != ''
         self.gives = tuple(it for it in GIVES if it in gives and (self.has_sums or it not in FRAMES))

@@ -5,7 +5,7 @@ import os
 import tempfile
 from typing import List
 
-from psxgpu.command import Trouble
+from psxgpu.command import ToolError
 from psxgpu.corpus.findings import Finding
 from psxgpu.corpus.play import Player
 from psxgpu.corpus.scan import copy_first, frames
@@ -37,5 +37,5 @@ def reduce_finding(finding: Finding, path: str, player: Player, reference: Playe
                         finding.lines += report_lines(found)[2:]
                         return
         finding.lines.append('not reduced: the first events alone show no difference')
-    except (Trouble, OSError, ValueError) as error:
+    except (ToolError, OSError, ValueError) as error:
         finding.lines.append('not reduced: %s' % error)

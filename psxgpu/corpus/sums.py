@@ -22,7 +22,7 @@ import hashlib
 from dataclasses import dataclass, field
 from typing import IO, Dict, List, Optional, Tuple
 
-from psxgpu.command import Trouble, named, write_whole
+from psxgpu.command import ToolError, named, write_whole
 
 VERSION = 1
 HEAD = 'psxgpu-corpus'
@@ -120,15 +120,15 @@ def first_row(line: str, value: str) -> Row:
 
 
 def read_head(lines: List[str], path: str) -> Sums:
-    """Returns the sums of a file without its rows. Raises Trouble if its head is not that of this version."""
+    """Returns the sums of a file without its rows. Raises ToolError if its head is not that of this version."""
     wanted = (HEAD, 'player', 'gives')
     found = [line.rstrip('\n').partition(' ') for line in lines[:3]]
     if not found or found[0][0] != HEAD:
-        raise Trouble('%s: not a file of sums: its first line is not `%s %d`' % (path, HEAD, VERSION))
+        raise ToolError('%s: not a file of sums: its first line is not `%s %d`' % (path, HEAD, VERSION))
     if found[0][2] != str(VERSION):
-        raise Trouble('%s:1: version %s; this tool knows version %d' % (path, found[0][2], VERSION))
+        raise ToolError('%s:1: version %s; this tool knows version %d' % (path, found[0][2], VERSION))
     if tuple(kind for kind, _, _ in found) != wanted or lines[3:4] != ['\n']:
-        raise Trouble('%s: the head is not whole' % path)
+        raise ToolError('%s: the head is not whole' % path)
     return Sums(found[1][2], tuple(found[2][2].split()))
 
 
@@ -161,9 +161,9 @@ def read_sums(path: str, is_whole: bool = True) -> Sums:
             else:
                 break
         except ValueError as error:
-            raise Trouble('%s:%d: not a line of a file of sums: %s' % (path, at, line.rstrip('\n')[:60])) from error
+            raise ToolError('%s:%d: not a line of a file of sums: %s' % (path, at, line.rstrip('\n')[:60])) from error
     if row and row.name in sums.rows:
-        raise Trouble('%s:%d: a second capture of the name %s' % (path, at, row.name))
+        raise ToolError('%s:%d: a second capture of the name %s' % (path, at, row.name))
     if is_whole and ended != len(lines):
-        raise Trouble('%s:%d: the file ends inside a capture' % (path, len(lines)))
+        raise ToolError('%s:%d: the file ends inside a capture' % (path, len(lines)))
     return sums

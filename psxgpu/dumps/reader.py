@@ -9,7 +9,7 @@ from psxgpu.command import Readable
 from psxgpu.dumps.format import HEAD, MOST_WORDS, NAME, PORT0, PORT1, READBACK, TITLES
 from psxgpu.packing import Damaged
 from psxgpu.stream import BEGINNINGS, HEADS, little
-from psxgpu.trouble import Trouble
+from psxgpu.errors import ToolError
 
 BLOCK = 1 << 18                 # bytes that are read at a time
 # Types whose packets may be long. They come in parts, since each of their words is an event of its own.
@@ -33,7 +33,7 @@ class Dump:
         self.unknown: Counter[int] = Counter()
         head = file.read(len(HEAD))
         if head != HEAD:
-            raise Trouble('%s: %s' % (name, fault_of(head)))
+            raise ToolError('%s: %s' % (name, fault_of(head)))
 
     def fill(self) -> bool:
         """Reads the next block. The words that are left come first. Returns whether there are more words."""

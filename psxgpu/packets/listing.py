@@ -4,7 +4,7 @@ import io
 import re
 from typing import IO, Iterable, Iterator, List, NamedTuple, Optional, Sequence
 
-from psxgpu.command import Trouble, reading
+from psxgpu.command import ToolError, reading
 from psxgpu.packets.control import control
 from psxgpu.packets.fields import fields
 from psxgpu.packets.parts import Registers
@@ -41,7 +41,7 @@ class Entry(NamedTuple):
 
 def until_fault(records: Iterable[Record]) -> Iterator[Record]:
     """Returns the records of a capture. One that is cut or bad ends early: the player says so."""
-    with contextlib.suppress(Trouble):
+    with contextlib.suppress(ToolError):
         yield from records
 
 
@@ -54,7 +54,7 @@ class Listing:
         self.last_event: Optional[int] = None
 
     def entries(self, flat: IO[bytes], has_ports: bool) -> Iterator[Entry]:
-        """Returns the packets of a flat capture and, if asked for, its events at the ports. Raises Trouble if the
+        """Returns the packets of a flat capture and, if asked for, its events at the ports. Raises ToolError if the
         player's list is not that of the words."""
         stream, event = Stream(flat, self.name), 1
         splitter = Splitter(stream.version == 3)
@@ -112,14 +112,14 @@ class Listing:
 
 
 def packet_entry(line: str, words: List[int], registers: Registers, capture: str) -> Entry:
-    """Returns the entry of a packet. Raises Trouble if the player's line is not that of the words."""
+    """Returns the entry of a packet. Raises ToolError if the player's line is not that of the words."""
     try:
         event, name, word, area = line.split(' ', 3)
         if word == HEADS[words[0]]:
             return Entry(int(event), name, area, line[:-1], words, registers)
     except ValueError:
         pass
-    raise Trouble('%s: the player lists `%s` and not a packet of %08x' % (capture, line.strip()[:60], words[0]))
+    raise ToolError('%s: the player lists `%s` and not a packet of %08x' % (capture, line.strip()[:60], words[0]))
 
 
 def port_entry(event: int, kind: int, count: int, words: Sequence[int]) -> Entry:

@@ -4,7 +4,7 @@ import collections
 from typing import TYPE_CHECKING, Dict, Iterator, List, Tuple
 
 from psxgpu import progress
-from psxgpu.command import Trouble
+from psxgpu.command import ToolError
 from psxgpu.players.named import Player, ending
 from psxgpu.players.probes import DRAWN, END, HEAD, Events, Target, probed, size, targets, whole
 
@@ -18,10 +18,10 @@ else:
 
 
 def output(player: Player, mode: str, data: bytes) -> bytes:
-    """Returns what a player writes for a capture. Raises Trouble if it does not end with 0."""
+    """Returns what a player writes for a capture. Raises ToolError if it does not end with 0."""
     done = player.run(mode, data)
     if done.status:
-        raise Trouble('%s, mode %s: %s' % (player.text, mode, ending(done)))
+        raise ToolError('%s, mode %s: %s' % (player.text, mode, ending(done)))
     return done.out
 
 
@@ -48,7 +48,7 @@ def beginning(stream: Events, found: Found, group: List[int], ours: Player) -> T
         return 0, array.array('I')
     dump = output(ours, 'vram', HEAD + stream.stream[:stream.ends[event]].tobytes() + END)
     if len(dump) != DUMP:
-        raise Trouble('%s vram: %d bytes, which is not a dump' % (ours, len(dump)))
+        raise ToolError('%s vram: %d bytes, which is not a dump' % (ours, len(dump)))
     return event, whole(dump, found[event].mask)
 
 
@@ -60,9 +60,9 @@ def read_back(player: Player, data: bytes, places: Dict[int, Tuple[int, int]]) -
         try:
             words = array.array('I', bytes.fromhex(text[9 * line:9 * (line + count)].decode('ascii')))
         except ValueError as bad:
-            raise Trouble('%s, mode play: line %d is not a word of eight digits' % (player.text, line + 1)) from bad
+            raise ToolError('%s, mode play: line %d is not a word of eight digits' % (player.text, line + 1)) from bad
         if len(words) != count:
-            raise Trouble('%s, mode play: fewer words than the capture reads' % player.text)
+            raise ToolError('%s, mode play: fewer words than the capture reads' % player.text)
         words.byteswap()
         out[event] = words
     return out
@@ -118,13 +118,13 @@ class Row:
 
 
 def audit(data: bytes, ours: Player, theirs: Player, first: int, last: int, name: str = 'capture') -> Dict[str, Row]:
-    """Returns a row for each class of packets from event `first` to event `last`. Raises Trouble if there is none."""
+    """Returns a row for each class of packets from event `first` to event `last`. Raises ToolError if there is none."""
     stream = Events(data, name)
     listing = output(ours, 'list', HEAD + stream.stream.tobytes() + END)
     try:
         found = targets(stream, listing)
     except (ValueError, IndexError) as bad:
-        raise Trouble('%s list: not a list of packets: %s' % (ours.text, bad)) from bad
+        raise ToolError('%s list: not a list of packets: %s' % (ours.text, bad)) from bad
     rows: Dict[str, Row] = collections.defaultdict(Row)
     groups = list(passes(found, first, last))
     for group in progress.counted(groups, name, is_quiet=True):
@@ -135,6 +135,6 @@ def audit(data: bytes, ours: Player, theirs: Player, first: int, last: int, name
             target = found[event]
             rows[class_of(target.name, target.word)].take(target, event, mine[event], other[event])
     if not rows:
-        raise Trouble('%s: no packet to judge from event %d to event %d'
+        raise ToolError('%s: no packet to judge from event %d to event %d'
                       % (name, first, min(last, max(first, len(stream.kinds) - 1))))
     return rows

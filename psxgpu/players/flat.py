@@ -5,14 +5,14 @@ import contextlib
 import tempfile
 from typing import Iterator, Optional
 
-from psxgpu.command import Trouble, pour, reading
+from psxgpu.command import ToolError, pour, reading
 from psxgpu.players import player
 from psxgpu.stream import NOT_FLAT, Stream
 
 
 def is_flat(path: str) -> bool:
     """Returns whether a capture has port writes and reads alone, as far as it can be read."""
-    with contextlib.suppress(Trouble), reading(path) as file:
+    with contextlib.suppress(ToolError), reading(path) as file:
         return not any(kind in NOT_FLAT for kind in Stream(file, path).kinds())
     return True
 

@@ -8,7 +8,7 @@ from typing import Iterator, List, Optional, Tuple
 
 from psxgpu.corpus.scan import copy_first
 from psxgpu.players import player
-from psxgpu.trouble import Trouble
+from psxgpu.errors import ToolError
 
 MEMORY = 'vram'
 
@@ -48,7 +48,7 @@ class Frames:
                     continue
                 frame = Frame(int(words[0]), int(words[1]), int(words[2]), words[3])
             except (ValueError, IndexError) as error:
-                raise Trouble('the player writes a line that is not one of `sums`: %s'
+                raise ToolError('the player writes a line that is not one of `sums`: %s'
                               % ' '.join(words)[:60]) from error
             yield frame
         status = self.run.end()
@@ -80,10 +80,10 @@ class Finding:
 
 
 def check_whole(names: Tuple[str, str], sides: Tuple[Frames, Frames], frames: int) -> None:
-    """Raises `Trouble` if the player refuses one of the recordings."""
+    """Raises `ToolError` if the player refuses one of the recordings."""
     for name, side in zip(names, sides):
         if side.refusal:
-            raise Trouble('%s: %s; %d frames before that are equal' % (name, side.refusal, frames))
+            raise ToolError('%s: %s; %d frames before that are equal' % (name, side.refusal, frames))
 
 
 def frame_lines(number: int, pair: Tuple[Optional[Frame], Optional[Frame]]) -> List[str]:

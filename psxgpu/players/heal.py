@@ -4,7 +4,7 @@ import contextlib
 import tempfile
 from typing import IO, Dict, Iterable, Iterator, List, Optional, Sequence, Tuple
 
-from psxgpu.command import Trouble
+from psxgpu.command import ToolError
 from psxgpu.packets.known import is_known
 from psxgpu.packets.split import LINE, POLYGON, TEXTURED, Splitter, data_words
 from psxgpu.players import player
@@ -69,7 +69,7 @@ class Healer:
                     if box:
                         asked += self.ask_one(questions, corner_and_size(box))
                     if asked > MOST_WORDS:
-                        raise Trouble('%s: the areas of what is ignored are too large' % self.name)
+                        raise ToolError('%s: the areas of what is ignored are too large' % self.name)
         questions.write(bytes(4))
         questions.flush()
         questions.seek(0)

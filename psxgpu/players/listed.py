@@ -3,7 +3,7 @@ from __future__ import annotations
 
 from typing import Dict, Iterator, List, NamedTuple, Optional, Sequence, Tuple
 
-from psxgpu.command import Trouble
+from psxgpu.command import ToolError
 from psxgpu.packets.split import Splitter
 from psxgpu.players import player
 from psxgpu.stream import GP0, GP1, Stream, count_of
@@ -24,14 +24,14 @@ class Record(NamedTuple):
 
 
 def area_of(line: bytes) -> Optional[Area]:
-    """Returns the area of a line of `list`, or None if it has none. Raises Trouble if the line is none of `list`."""
+    """Returns the area of a line of `list`, or None if it has none. Raises ToolError if the line is none of `list`."""
     try:
         _, _, _, x1, y1, x2, y2 = line.split()
         return int(x1), int(y1), int(x2), int(y2)
     except ValueError as error:
         if line.endswith(b' -\n'):
             return None
-        raise Trouble('the player lists a line that is not one of `list`: %r' % line[:40]) from error
+        raise ToolError('the player lists a line that is not one of `list`: %r' % line[:40]) from error
 
 
 class Walk:

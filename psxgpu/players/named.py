@@ -20,7 +20,7 @@ import signal
 import subprocess
 from typing import List, NamedTuple, Optional
 
-from psxgpu.command import Trouble
+from psxgpu.command import ToolError
 from psxgpu.vram import WIDTH
 from psxgpu.machine import MODES, play
 from psxgpu.machine.library import Missing, OutOfMemory, Refused, library
@@ -63,7 +63,7 @@ def arguments_of(command: str) -> List[str]:
         try:
             words = shlex.split(command)
         except ValueError:
-            raise Trouble('%s: a quote has no end' % command) from None
+            raise ToolError('%s: a quote has no end' % command) from None
         if words and '=' not in words[0]:
             return words
     return ['sh', '-c', command]
@@ -92,7 +92,7 @@ class CommandPlayer(Player):
             child = subprocess.Popen(words, stdin=subprocess.PIPE, stdout=subprocess.PIPE, stderr=subprocess.PIPE,
                                      start_new_session=True)
         except OSError as error:
-            raise Trouble('%s: %s' % (words[0], error.strerror)) from error
+            raise ToolError('%s: %s' % (words[0], error.strerror)) from error
         try:
             out, err = child.communicate(data, seconds)
         except subprocess.TimeoutExpired:
@@ -133,7 +133,7 @@ def is_own(words: List[str]) -> bool:
         return True
     try:
         return os.path.samefile(words[0], program.find())
-    except (OSError, Trouble):
+    except (OSError, ToolError):
         return False
 
 
@@ -141,7 +141,7 @@ def player_of(command: str, appends: bool = False) -> Player:
     """Returns the player that a command names. `appends`: the mode is added to a command without `vram`."""
     found = CommandPlayer(command, appends)
     if not command.strip():
-        raise Trouble('a player without a name')
+        raise ToolError('a player without a name')
     if is_own(found.arguments('vram')):
         try:
             if library().play:
@@ -170,7 +170,7 @@ def ending(done: Done) -> str:
 
 
 def expect_dump(player: Player, data: bytes, seconds: Optional[float] = None) -> bytes:
-    """Returns the dump of a capture. Raises Trouble if there is none; it suggests the word `vram` if that helps."""
+    """Returns the dump of a capture. Raises ToolError if there is none; it suggests the word `vram` if that helps."""
     done = player.run('vram', data, seconds)
     dump = dump_of(done)
     if dump is not None:
@@ -180,4 +180,4 @@ def expect_dump(player: Player, data: bytes, seconds: Optional[float] = None) ->
     if isinstance(player, CommandPlayer) and not WORD.search(player.command) and not player.appends:
         if dump_of(CommandPlayer(meant).run('vram', data, seconds)) is not None:
             hint = ': is %r meant?' % meant
-    raise Trouble('%s: no dump (%s)%s' % (player.text, ending(done), hint))
+    raise ToolError('%s: no dump (%s)%s' % (player.text, ending(done), hint))

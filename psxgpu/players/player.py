@@ -8,7 +8,7 @@ import tempfile
 from typing import IO, Iterator, List, Optional, Union
 
 from psxgpu import progress
-from psxgpu.command import Trouble, pour
+from psxgpu.command import ToolError, pour
 
 TOP = os.path.dirname(os.path.dirname(os.path.dirname(os.path.abspath(__file__))))
 BUILT = os.path.join(TOP, 'crates', 'psxgpu_tool', 'out', 'psxgpu_tool')
@@ -22,13 +22,13 @@ def argument(parser: argparse.ArgumentParser) -> None:
 
 
 def find(given: Optional[str] = None) -> str:
-    """Returns the path of the program: `given`, or the one that is found. Raises Trouble if there is none."""
+    """Returns the path of the program: `given`, or the one that is found. Raises ToolError if there is none."""
     for path in (given, os.environ.get('PLAYER'), shutil.which('psxgpu_tool'), BUILT):
         if path and os.access(path, os.X_OK) and os.path.isfile(path):
             return path
         if path and path == given:
-            raise Trouble('%s: not a program' % given)
-    raise Trouble('psxgpu_tool is not on the path: build it with `make run`, or name it with --player')
+            raise ToolError('%s: not a program' % given)
+    raise ToolError('psxgpu_tool is not on the path: build it with `make run`, or name it with --player')
 
 
 def failure(status: int, err: bytes) -> str:
@@ -46,7 +46,7 @@ class Run:
         try:
             self.child = subprocess.Popen([player] + words, stdin=source, stdout=subprocess.PIPE, stderr=err)
         except OSError as error:
-            raise Trouble('%s: %s' % (player, error.strerror)) from error
+            raise ToolError('%s: %s' % (player, error.strerror)) from error
         assert self.child.stdout is not None
         self.out = self.child.stdout
 
@@ -61,10 +61,10 @@ class Run:
         return self.err.read()
 
     def expect_whole(self) -> None:
-        """Waits for the end. Raises Trouble if the status is not 0."""
+        """Waits for the end. Raises ToolError if the status is not 0."""
         status = self.end()
         if status:
-            raise Trouble(failure(status, self.said()))
+            raise ToolError(failure(status, self.said()))
 
 
 @contextlib.contextmanager

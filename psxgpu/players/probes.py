@@ -3,7 +3,7 @@ import array
 import io
 from typing import Dict, Iterator, List, NamedTuple, Optional, Sequence, Tuple
 
-from psxgpu.command import Trouble
+from psxgpu.command import ToolError
 from psxgpu.stream import GP0, GP1, READ, SKIP, STAT, Stream
 
 HEAD, END = b'PSXGPUC1', bytes(4)
@@ -30,11 +30,11 @@ class Events:
         self.name = name
         found = Stream(io.BytesIO(data), name)
         if found.version == 3:
-            raise Trouble('%s: a capture of the tall profile, which version 1 does not have' % name)
+            raise ToolError('%s: a capture of the tall profile, which version 1 does not have' % name)
         self.stream, self.kinds, self.ends, self.lines = array.array('I'), [0], [0], [0]
         for kind, count, words in found:
             if kind not in (GP0, GP1, READ, STAT, SKIP):
-                raise Trouble('%s: not flat: `psxgpu_tool flat` makes it so' % name)
+                raise ToolError('%s: not flat: `psxgpu_tool flat` makes it so' % name)
             for k in range(count):
                 kind = READ if kind == SKIP else kind
                 self.stream.append(kind << 24 | 1)

@@ -4,7 +4,7 @@ from __future__ import annotations
 from typing import Optional, Tuple
 
 from psxgpu.capture import Capture
-from psxgpu.command import Trouble, reading
+from psxgpu.command import ToolError, reading
 from psxgpu.players.named import Player, dump_of, expect_dump
 from psxgpu.registers import drawing_area
 from psxgpu.stream import Stream
@@ -26,7 +26,7 @@ def try_players(ours: Player, theirs: Player, path: str, seconds: Optional[float
 
 
 def try_commands(ours: Player, theirs: Player, version: int = 1, seconds: Optional[float] = None) -> None:
-    """Raises Trouble if a player writes no dump, if both dumps differ in size, or if a player writes the same dump of
+    """Raises ToolError if a player writes no dump, if both dumps differ in size, or if a player writes the same dump of
     a capture that draws as of one that does not."""
     empty, drawn = trial_captures(version)
     sizes = []
@@ -34,7 +34,7 @@ def try_commands(ours: Player, theirs: Player, version: int = 1, seconds: Option
         before = expect_dump(player, empty, seconds)
         # One that does not play the second capture may still play the user's.
         if before == dump_of(player.run('vram', drawn, seconds)):
-            raise Trouble('%s: %s player gives the same dump whatever it reads' % (player.text, role))
+            raise ToolError('%s: %s player gives the same dump whatever it reads' % (player.text, role))
         sizes.append(len(before))
     if sizes[0] != sizes[1]:
-        raise Trouble('dumps of %d and %d bytes: %s, %s' % (sizes[0], sizes[1], ours.text, theirs.text))
+        raise ToolError('dumps of %d and %d bytes: %s, %s' % (sizes[0], sizes[1], ours.text, theirs.text))

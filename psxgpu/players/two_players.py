@@ -4,7 +4,7 @@ from __future__ import annotations
 import concurrent.futures
 from typing import Optional, Tuple
 
-from psxgpu.command import Trouble
+from psxgpu.command import ToolError
 from psxgpu.difference import compared
 from psxgpu.players.named import Player, dump_of, expect_dump
 from psxgpu.players.steps import Steps
@@ -19,7 +19,7 @@ def dumps_of(ours: Player, theirs: Player, data: bytes, short: Optional[bytes] =
         one = expect_dump(ours, data if short is None else short)
         out = one, other.result()
     if len(out[0]) != len(out[1]):
-        raise Trouble('dumps of %d and %d bytes' % (len(out[0]), len(out[1])))
+        raise ToolError('dumps of %d and %d bytes' % (len(out[0]), len(out[1])))
     return out
 
 

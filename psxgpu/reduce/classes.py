@@ -8,7 +8,7 @@ import tempfile
 from typing import Dict, List, NamedTuple, Optional, Tuple
 
 from psxgpu import progress
-from psxgpu.command import Trouble, write_whole
+from psxgpu.command import ToolError, write_whole
 from psxgpu.players.audit import Row
 from psxgpu.players.named import Player
 from psxgpu.reduce.faults import DumpsDiffer
@@ -49,8 +49,8 @@ def reduced_entry(kind: str, row: Row, flat: str, name: str, players: Tuple[Play
     try:
         with Job(*players, wanted) as job:
             found = job.result(flat, name)
-    except Trouble as trouble:
-        return Entry(kind, row, [str(trouble)], [])
+    except ToolError as error:
+        return Entry(kind, row, [str(error)], [])
     if found is None:
         return Entry(kind, row, ['not shown by dumps'], [])
     notes = ['ours: ' + players[0].text, 'theirs: ' + players[1].text]

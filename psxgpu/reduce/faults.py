@@ -3,7 +3,7 @@ from __future__ import annotations
 
 from typing import List, NamedTuple, Optional, Tuple
 
-from psxgpu.command import Trouble
+from psxgpu.command import ToolError
 from psxgpu.difference import compared
 from psxgpu.players.named import Done, Player, dump_of
 
@@ -38,7 +38,7 @@ class DumpsDiffer(Fault):
         if one is None or other is None or one == other:
             return False
         if len(one) != len(other):
-            raise Trouble('dumps of %d and %d bytes' % (len(one), len(other)))
+            raise ToolError('dumps of %d and %d bytes' % (len(one), len(other)))
         return not self.tolerance or compared(one, other, self.tolerance).count > 0
 
 

@@ -3,7 +3,7 @@ from __future__ import annotations
 
 from typing import Callable, List, NamedTuple, Optional
 
-from psxgpu.command import Trouble
+from psxgpu.command import ToolError
 from psxgpu.players.beginning import first_bytes
 from psxgpu.players.named import Player, expect_dump
 from psxgpu.reduce.faults import BreaksDown, Fault, WordsDiffer
@@ -59,7 +59,7 @@ class Job:
             return expect_dump(self.prober.ours, first_bytes(found.path, name, events), self.prober.seconds)
 
         if reducer.start(tail.units, dump_at) is None:
-            raise Trouble('%s: event %d differs after all that is before it, and not after a state and %d packets'
+            raise ToolError('%s: event %d differs after all that is before it, and not after a state and %d packets'
                           % (name, found.event, len(tail.units) - 1))
         reducer.reduce(self.wanted.keep, isinstance(self.wanted.fault, BreaksDown))
         return reducer

@@ -5,7 +5,7 @@ import contextlib
 import os
 from typing import Callable, Iterator, List, NamedTuple, Optional
 
-from psxgpu.command import Trouble
+from psxgpu.command import ToolError
 from psxgpu.players.bisection import bisect, build
 from psxgpu.players import player
 from psxgpu.players.beginning import FIRST_LOOK, beginning
@@ -25,7 +25,7 @@ def step_of_event(steps: Steps, name: str, event: int) -> int:
     for k in range(1, steps.count + 1):
         if steps.events[k] >= event:
             return k
-    raise Trouble('%s: it has %d events' % (name, steps.events[-1]))
+    raise ToolError('%s: it has %d events' % (name, steps.events[-1]))
 
 
 class Search:

@@ -1,6 +1,6 @@
 /* os.h for WASI, preview 1, without a C library.
  *
- * It is compiled with addresses of 64 bits, and web/lower64.py makes the module one with 32. What WASI reads and writes
+ * It is compiled with addresses of 64 bits, and systems/lower64.py makes the module one with 32. What WASI reads and writes
  * in memory has addresses of 32 bits. */
 #include <stdlib.h>
 #include "os.h"

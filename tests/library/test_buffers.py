@@ -1,18 +1,12 @@
-#!/usr/bin/env python3
-"""Words from a caller's buffer, and output into one: python3 tests/library/test_buffers.py"""
+"""Words from a caller's buffer, and output into one"""
 import array
 import contextlib
 import ctypes
-import os
-import sys
 import unittest
 
-ROOT = os.path.dirname(os.path.dirname(os.path.dirname(os.path.abspath(__file__))))
-sys.path.insert(0, ROOT)
-
-import psxgpu  # noqa: E402
-from psxgpu.capture import fill, rectangle, screen  # noqa: E402
-from tests.library.support import needs_library  # noqa: E402
+import psxgpu
+from psxgpu.capture import fill, rectangle, screen
+from tests.library.support import needs_library
 
 setUpModule = needs_library
 
@@ -66,7 +60,3 @@ class Buffers(unittest.TestCase):
             self.assertEqual((str(caught.exception), room), ('psxgpu: no-room', b'x' * 100))
             for wrong in (bytes(1 << 20), memoryview(bytearray(1 << 21))[::2], 'text', 5):
                 self.assertRaises(TypeError, call, into=wrong)
-
-
-if __name__ == '__main__':
-    unittest.main()

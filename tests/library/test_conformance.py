@@ -1,16 +1,10 @@
-#!/usr/bin/env python3
-"""The library passes the conformance suite in this process, after `make lib`: python3 tests/library/test_conformance.py"""
-import os
-import sys
+"""The library passes the conformance suite in this process, after `make lib`"""
 import unittest
 
-ROOT = os.path.dirname(os.path.dirname(os.path.dirname(os.path.abspath(__file__))))
-sys.path.insert(0, ROOT)
-
-from psxgpu.commands.conform import every_test  # noqa: E402
-from psxgpu.conformance.judging import PASSED, Judge  # noqa: E402
-from psxgpu.players.named import LibraryPlayer, player_of  # noqa: E402
-from tests.library.support import needs_library  # noqa: E402
+from psxgpu.commands.conform import every_test
+from psxgpu.conformance.judging import PASSED, Judge
+from psxgpu.players.named import LibraryPlayer, player_of
+from tests.library.support import needs_library
 
 setUpModule = needs_library
 
@@ -24,7 +18,3 @@ class Suite(unittest.TestCase):
     def test_the_program_is_played_by_the_library(self):
         """`psxgpu conform psxgpu_tool` starts no process where the library is."""
         self.assertIsInstance(player_of('psxgpu_tool', appends=True), LibraryPlayer)
-
-
-if __name__ == '__main__':
-    unittest.main()

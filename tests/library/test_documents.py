@@ -1,20 +1,17 @@
-#!/usr/bin/env python3
-"""docs/LIBRARY.md and EMBEDDING.md do what they say, after `make lib`: python3 tests/library/test_documents.py
+"""docs/LIBRARY.md and EMBEDDING.md do what they say, after `make lib`
 
 The Python lines are a doctest. A block after a name such as `triangle.c` is that file. Lines of a console block after
-`$ ` are run, beside these files, and what they write is compared. The browser's lines are for web/test_web.py."""
+`$ ` are run, beside these files, and what they write is compared. The browser's lines are for tests/web/test_web.py."""
 import doctest
 import os
 import re
 import subprocess
-import sys
 import tempfile
 import unittest
 
 ROOT = os.path.dirname(os.path.dirname(os.path.dirname(os.path.abspath(__file__))))
-sys.path.insert(0, ROOT)
 
-from tests.library.support import needs_library  # noqa: E402
+from tests.library.support import needs_library
 
 setUpModule = needs_library
 PAGE = os.path.join(ROOT, 'docs', 'LIBRARY.md')
@@ -52,7 +49,3 @@ class Page(unittest.TestCase):
                 os.symlink(os.path.join(ROOT, name), os.path.join(folder, name))
             for page in PAGES:
                 self.play(page, folder)
-
-
-if __name__ == '__main__':
-    unittest.main()

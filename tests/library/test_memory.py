@@ -1,16 +1,11 @@
-#!/usr/bin/env python3
-"""Tests of psxgpu.py: main memory, DMA, snapshots and notes: python3 tests/library/test_memory.py"""
+"""Tests of psxgpu.py: main memory, DMA, snapshots and notes"""
 import os
-import sys
 import tempfile
 import unittest
 
-ROOT = os.path.dirname(os.path.dirname(os.path.dirname(os.path.abspath(__file__))))
-sys.path.insert(0, ROOT)
-
-import psxgpu  # noqa: E402
-from psxgpu.capture import BLOCKS_IN, BLOCKS_OUT, LIST, copy, drawing_area, fill, load, rectangle, store  # noqa: E402
-from tests.library.support import needs_library  # noqa: E402
+import psxgpu
+from psxgpu.capture import BLOCKS_IN, BLOCKS_OUT, LIST, copy, drawing_area, fill, load, rectangle, store
+from tests.library.support import needs_library
 
 setUpModule = needs_library
 
@@ -115,7 +110,3 @@ class Notes(unittest.TestCase):
         self.assertEqual([(note.event, note.class_number, note.area) for note in found[:2]],
                          [(1, 7, None), (2, 7, None)])
         self.assertEqual(machine.gp0_notes([0x60000000]), [])
-
-
-if __name__ == '__main__':
-    unittest.main()

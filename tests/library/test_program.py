@@ -1,17 +1,13 @@
-#!/usr/bin/env python3
-"""The module against the program, over all examples: PLAYER=psxgpu_tool python3 tests/library/test_program.py"""
+"""The module against the program, over all examples"""
 import os
 import sys
 import unittest
 
-ROOT = os.path.dirname(os.path.dirname(os.path.dirname(os.path.abspath(__file__))))
-sys.path.insert(0, ROOT)
-
-from psxgpu.players.named import LibraryPlayer, player_of  # noqa: E402
+from psxgpu.players.named import LibraryPlayer, player_of
 from tests.library import support as program
-import psxgpu  # noqa: E402
-from psxgpu.capture import BEGIN, DMA, GP0, GP1, RAM, READ, SKIP, STAT, TURN, records  # noqa: E402
-from psxgpu.packets.control import class_name  # noqa: E402
+import psxgpu
+from psxgpu.capture import BEGIN, DMA, GP0, GP1, RAM, READ, SKIP, STAT, TURN, records
+from psxgpu.packets.control import class_name
 
 setUpModule = program.needs_library
 
@@ -168,7 +164,3 @@ class AgainstTheProgram(unittest.TestCase):
             self.assertNotIsInstance(player_of(command), LibraryPlayer)
         done = player.run('vram', program.bytes_at(path))
         self.assertEqual(done, (0, program.play('vram', program.bytes_at(path))[1], b''))
-
-
-if __name__ == '__main__':
-    unittest.main()

@@ -1,17 +1,14 @@
-#!/usr/bin/env python3
-"""Tests of psxgpu.py: what it refuses, and the machine's ports: python3 tests/library/test_psxgpu.py"""
+"""Tests of psxgpu.py: what it refuses, and the machine's ports"""
 import copy
 import os
-import sys
 import threading
 import unittest
 
 ROOT = os.path.dirname(os.path.dirname(os.path.dirname(os.path.abspath(__file__))))
-sys.path.insert(0, ROOT)
 
-import psxgpu  # noqa: E402
-from psxgpu.capture import fill, load, screen, store  # noqa: E402
-from tests.library.support import needs_library  # noqa: E402
+import psxgpu
+from psxgpu.capture import fill, load, screen, store
+from tests.library.support import needs_library
 
 setUpModule = needs_library
 
@@ -177,7 +174,3 @@ class Machines(unittest.TestCase):
         for thread in threads:
             thread.join()
         self.assertEqual({self.machine.cell(x, 5) for x in range(128)}, {31})
-
-
-if __name__ == '__main__':
-    unittest.main()

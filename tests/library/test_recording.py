@@ -1,15 +1,12 @@
-#!/usr/bin/env python3
-"""Captures and snapshots to iterate over, against the library's own modes: python3 tests/library/test_recording.py"""
+"""Captures and snapshots to iterate over, against the library's own modes"""
 import os
-import sys
 import unittest
 
 ROOT = os.path.dirname(os.path.dirname(os.path.dirname(os.path.abspath(__file__))))
-sys.path.insert(0, ROOT)
 
-import psxgpu  # noqa: E402
-from psxgpu.capture import Capture, GP0, fill, screen  # noqa: E402
-from tests.library.support import EXAMPLES, bytes_at, needs_library  # noqa: E402
+import psxgpu
+from psxgpu.capture import Capture, GP0, fill, screen
+from tests.library.support import EXAMPLES, bytes_at, needs_library
 
 setUpModule = needs_library
 PACKED = [os.path.join(ROOT, 'examples', name + '.capture.gz') for name in ('cube', 'ports')]
@@ -103,7 +100,3 @@ class Recordings(unittest.TestCase):
     def test_what_a_record_says(self):
         record = next(psxgpu.Recording(Capture().gp0(1, 2).bytes()).records())
         self.assertEqual((record.kind, record.name, record.count, record.events), (GP0, 'Gp0', 2, 2))
-
-
-if __name__ == '__main__':
-    unittest.main()

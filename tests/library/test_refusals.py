@@ -1,18 +1,12 @@
-#!/usr/bin/env python3
 """The library's own refusals, by its raw calls, as a program in C could make them: python3
 tests/library/test_refusals.py"""
 import ctypes
-import os
-import sys
 import unittest
 
-ROOT = os.path.dirname(os.path.dirname(os.path.dirname(os.path.abspath(__file__))))
-sys.path.insert(0, ROOT)
-
-from psxgpu.machine import Machine  # noqa: E402
-from psxgpu.machine.library import SIZE, WORD, Ended, Handle, RawNote, library  # noqa: E402
-from psxgpu.capture import Capture, fill, screen  # noqa: E402
-from tests.library.support import needs_library  # noqa: E402
+from psxgpu.machine import Machine
+from psxgpu.machine.library import SIZE, WORD, Ended, Handle, RawNote, library
+from psxgpu.capture import Capture, fill, screen
+from tests.library.support import needs_library
 
 setUpModule = needs_library
 
@@ -154,7 +148,3 @@ class Refusals(unittest.TestCase):
         room = Room(len(whole))
         self.assertEqual(self.library.play(0, 0, capture, len(capture), room.at, len(whole), ended), 0)
         self.assertEqual(room.held(), whole)
-
-
-if __name__ == '__main__':
-    unittest.main()

@@ -3,13 +3,13 @@
 // recording beside this one), 'goto' (show what differs), 'ahead' (the pass has played on), 'work' (its progress) and
 // 'said' (a line).
 
-import { Ahead } from './ahead.js';
-import { breath } from './breath.js';
-import { Machine } from './machine.js';
-import { Pass } from './pass.js';
-import { Player } from './player.js';
-import { Stopped, openFile } from './opening.js';
-import { isDrawing, nextRow } from './stepping.js';
+import { Ahead } from './playing/ahead.js';
+import { breath } from './playing/yield_to_page.js';
+import { Machine } from './playing/machine.js';
+import { Pass } from './playing/pass.js';
+import { Player } from './playing/player.js';
+import { Stopped, openFile } from './reading/opening.js';
+import { isDrawing, nextRow } from './panels/stepping.js';
 
 export class App extends EventTarget {
     constructor(library) {

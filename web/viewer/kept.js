@@ -1,6 +1,6 @@
 // Choices of the reader that are kept in this browser: the theme, and which side panels are open.
 
-import { element } from './dom.js';
+import { element } from './panels/dom.js';
 
 // A browser may refuse a page its storage; then nothing is kept.
 function recall(name) {

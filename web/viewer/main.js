@@ -1,23 +1,23 @@
 // Begins: the machine, the panels, files that are chosen or dropped, the examples that the page brings along.
 
 import { App } from './app.js';
-import { ComparePanel } from './compare_panel.js';
-import { counted, element, made } from './dom.js';
-import { addressOf } from './address.js';
-import { Keys } from './keys.js';
+import { ComparePanel } from './panels/compare_panel.js';
+import { counted, element, made } from './panels/dom.js';
+import { addressOf } from './playing/address.js';
+import { Keys } from './panels/keys.js';
 import { wireFolds, wireTheme } from './kept.js';
-import { Follower } from './link.js';
-import { makeMenu } from './menu.js';
-import { nameOf } from './names.js';
-import { ListPanel } from './list_panel.js';
-import { Out } from './out.js';
-import { PacketPanel } from './packet_panel.js';
-import { PalettePanel } from './palette_panel.js';
-import { PixelPanel } from './pixel_panel.js';
-import { Receiver } from './receiver.js';
-import { RegistersPanel } from './registers_panel.js';
-import { Timeline } from './timeline.js';
-import { Views } from './views.js';
+import { Follower } from './panels/link.js';
+import { makeMenu } from './panels/menu.js';
+import { nameOf } from './reading/names.js';
+import { ListPanel } from './panels/list_panel.js';
+import { Out } from './panels/saving.js';
+import { PacketPanel } from './panels/packet_panel.js';
+import { PalettePanel } from './panels/palette_panel.js';
+import { PixelPanel } from './panels/pixel_panel.js';
+import { Receiver } from './reading/receiver.js';
+import { RegistersPanel } from './panels/registers_panel.js';
+import { Timeline } from './panels/timeline.js';
+import { Views } from './views/views.js';
 
 const bytesOfText = text => Uint8Array.from(atob(text), letter => letter.charCodeAt(0));
 

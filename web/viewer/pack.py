@@ -2,7 +2,7 @@
 """Writes web/viewer.html, one file that needs nothing beside it: the page of web/viewer with its style, its modules,
 the machine (web/out/psxgpu.js, which `make web` makes) and the examples.
 
-    python3 web/viewer/pack.py [OUT]
+    python3 -m web.viewer.pack [OUT]
 
 web/bundle.py joins the modules, and has what they may not do.
 """
@@ -11,21 +11,23 @@ import json
 import os
 import sys
 
+from web import bundle
+
 HERE = os.path.dirname(os.path.abspath(__file__))
 WEB = os.path.dirname(HERE)
 EXAMPLES = os.path.join(os.path.dirname(WEB), 'examples')
 MACHINE = os.path.join(WEB, 'out', 'psxgpu.js')
 FIRST = 'main'
-sys.path.insert(0, WEB)
-import bundle  # noqa: E402
 
 
-def text_of(path):
+def text_of(path: str) -> str:
+    """Returns the text of a file."""
     with open(path, encoding='utf-8') as file:
         return file.read()
 
 
-def example_files():
+def example_files() -> str:
+    """Returns the examples as JSON: the bytes of each in base64, by its name."""
     out = {}
     for name in sorted(os.listdir(EXAMPLES)):
         if name.endswith('.capture'):
@@ -34,7 +36,8 @@ def example_files():
     return json.dumps(out)
 
 
-def page():
+def page() -> str:
+    """Returns the page."""
     scripts = '\n'.join(['<script type="application/json" id="example-files">%s</script>' % example_files(),
                          '<script>\n%s</script>' % text_of(MACHINE), '<script>\n%s</script>' % bundle.script_of(HERE, FIRST)])
     text = text_of(os.path.join(HERE, 'index.html'))
@@ -42,7 +45,8 @@ def page():
             .replace('<!-- SCRIPTS -->', scripts))
 
 
-def main():
+def main() -> None:
+    """Writes the page."""
     out = sys.argv[1] if len(sys.argv) > 1 else os.path.join(WEB, 'viewer.html')
     if not os.path.exists(MACHINE):
         sys.exit('pack.py: there is no web/out/psxgpu.js: make web makes it')

@@ -1,0 +1,1 @@
+"""How fast the program is: workloads, players side by side, instructions. Each module is run as `python3 -m bench.NAME`."""

@@ -1,0 +1,1 @@
+"""Captures, and programs that make them: `python3 -m examples.make`."""

@@ -1,0 +1,1 @@
+"""Makes the packages: `python3 -m packages.build dist DIR`."""

@@ -1,0 +1,1 @@
+"""The recorder: a header, a plugin for emulators and the command `record`."""

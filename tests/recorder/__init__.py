@@ -1,0 +1,1 @@
+"""Tests of recorder/: its header, its plugin, its command."""

@@ -1,0 +1,1 @@
+"""Tests of what builds for other systems, and of what is built."""

@@ -1,0 +1,1 @@
+"""Tests of the package psxgpu and its command."""

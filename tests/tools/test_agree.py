@@ -1,0 +1,45 @@
+"""Two players on random captures."""
+import os
+import unittest
+
+from tests import support
+from psxgpu.packets.generated import CLASSES
+
+
+class Agreement(support.InFolder):
+    def agree(self, *words):
+        done = support.run_tool('agree', *words)
+        return done.returncode, done.stdout.splitlines()[2:], done.stderr
+
+    def player(self, name, text):
+        path = self.write(name, '#!/bin/sh\n' + text)
+        os.chmod(path, 0o755)
+        return path
+
+    def test_dumps(self):
+        """One player writes how long its capture is, one the double, and one nothing if it is long."""
+        dump = "{ printf '%06d' $n; cat /dev/zero; } | head -c 1048576\n"
+        zeros = self.player('zeros', 'n=$(wc -c); ' + dump)
+        one = self.player('one', 'n=$(($(wc -c) * 2)); ' + dump)
+        nothing = self.player('nothing', 'n=$(wc -c); [ $n -gt 4000 ] || ' + dump)
+        same = self.player('same', 'cat > /dev/null; head -c 1048576 /dev/zero\n')
+        self.assertEqual(self.agree(zeros, same, '1', 'fills')[2], 'psxgpu agree: %s: the other player gives the same '
+                         'dump whatever it reads\n' % same)
+        self.assertEqual(self.agree(zeros, zeros, '2', 'fills'), (0, ['| fills | 2 | 2 |  |'], ''))
+        status, lines, _ = self.agree(zeros, one, '2', 'fills')
+        self.assertEqual((status, lines[0]), (1, '| fills | 2 | 0 | 100.00 % |'))
+        self.assertEqual(self.agree(zeros, nothing, '1', 'fills'), (
+            2, ['| fills | 1 | 0 |  (1 without a dump) |'],
+            'psxgpu agree: a player wrote no dump for 1 of 1 captures\n'))
+
+    def test_trouble(self):
+        for words, reason in ((['none', 'none', '1', 'fills'], 'none: No such file or directory'),
+                              (['a', 'b', '1', 'draws'], "there is no class 'draws': the classes are fills; loads; "),
+                              ([], 'name two players')):
+            status, _, said = self.agree(*words)
+            self.assertEqual((status, said.count('\n')), (2, 1))
+            self.assertTrue(said.startswith('psxgpu agree: ' + reason), said)
+
+    def test_classes(self):
+        done = support.run_tool('agree', '--classes')
+        self.assertEqual((done.returncode, done.stdout.splitlines()), (0, list(CLASSES)))

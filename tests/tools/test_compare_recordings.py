@@ -1,0 +1,107 @@
+"""Two recordings compared frame by frame, by a small player."""
+import gzip
+import os
+import sys
+import unittest
+
+from tests import support
+from psxgpu import capture as c
+from psxgpu.image import read_png
+
+# A player whose picture is the colour of the last fill, as many cells wide as there were fills before, and whose video
+# memory begins with the colours of all fills. It refuses a fill of colour 99.
+PLAYER = '''#!%s
+import hashlib, sys
+from psxgpu.capture import events, records
+mode, marks, words, colors = sys.argv[1], sys.argv[2:] == ['marks'], [], []
+opcode = 0x3F if marks else 5
+def picture():
+    return b'P6\\n%%d 1\\n255\\n' %% max(len(colors), 1) + bytes(colors[-1:] * 3 or 3) * max(len(colors), 1)
+def show(event):
+    if mode == 'sums':
+        print(event, max(len(colors), 1), 1, hashlib.sha256(picture()).hexdigest(), flush=True)
+for event, (kind, _, found) in enumerate(events(records(sys.stdin.buffer.read())[1]), 1):
+    if kind == 2:
+        words.append(found[0])
+        if len(words) == 3:
+            colors.append(words[0] & 255)
+            words = []
+            if colors[-1] == 99:
+                sys.exit(print('small: no 99 at event %%d' %% event, file=sys.stderr) or 2)
+    if kind == 3 and found[0] >> 24 == opcode:
+        show(event)
+memory = (b''.join(bytes([color, 0]) for color in colors)).ljust(2048, bytes(1))
+if mode == 'sums':
+    print('vram', hashlib.sha256(memory).hexdigest())
+if mode == 'vram':
+    sys.stdout.buffer.write(memory)
+if mode == 'shot':
+    sys.stdout.buffer.write(picture())
+''' % sys.executable
+
+
+def film(*colors, end=0x05000000, reads=0):
+    """A frame for each colour."""
+    capture = c.Capture()
+    for color in colors:
+        capture.gp0(c.fill(color, 0, 0, 16, 1)).stat(reads).gp1(end) if reads else capture.gp0(
+            c.fill(color, 0, 0, 16, 1)).gp1(end)
+    return capture
+
+
+class Recordings(support.InFolder):
+    def setUp(self):
+        super().setUp()
+        os.chmod(self.write('small', PLAYER), 0o755)
+
+    def compare(self, ours, theirs, *words):
+        """The status and the lines of a comparison."""
+        paths = [self.write(name, data if isinstance(data, bytes) else data.bytes())
+                 for name, data in (('ours', ours), ('theirs', theirs))]
+        done = support.run_tool('compare', *paths, *words, '--player', self.path('small'), cwd=self.folder)
+        return done.returncode, done.stdout.splitlines() or done.stderr.replace(self.folder + '/', '')
+
+    def test_equal(self):
+        """A read of the status more, and another packing, are no difference."""
+        self.assertEqual(self.compare(film(1, 2), film(1, 2, reads=2)), (0, ['equal: 2 frames, and video memory']))
+        self.assertEqual(self.compare(film(1, 2), gzip.compress(film(1, 2).bytes())),
+                         (0, ['equal: 2 frames, and video memory']))
+        self.assertEqual(self.compare(c.Capture(), c.Capture()), (0, ['equal: 0 frames, and video memory']))
+
+    def test_first_frame(self):
+        status, lines = self.compare(film(1, 2, 3), film(1, 7, 3, reads=1), 'd.png', '--side', 's.png')
+        self.assertEqual((status, lines[0]), (1, 'first differing frame: 2, event 8 and event 10'))
+        self.assertRegex(lines[1], '^2 by 1 [0-9a-f]{64} and 2 by 1 [0-9a-f]{64}$')
+        self.assertEqual(lines[2:], ['first differing cell: (0, 0): 020202 and 070707', 'cells that differ: 2',
+                                     'their box: 0 0 1 0', 'by steps: 4 to 7: 2'])
+        self.assertEqual(read_png(self.read('d.png')).pixels, b'\xff\x20\x20' * 2)
+        self.assertEqual(read_png(self.read('s.png')).pixels, b'\2' * 6 + b'\7' * 6 + b'\xff\x20\x20' * 2)
+
+    def test_marks(self):
+        pair = film(1, 2, end=0x3F000000), film(1, 3, end=0x3F000000)
+        self.assertEqual(self.compare(*pair, '--marks')[1][0], 'first differing frame: 2, event 8 and event 8')
+        status, lines = self.compare(*pair)
+        self.assertEqual((status, lines[0]), (1, 'equal: 0 frames'))
+        self.assertRegex(lines[1], '^video memory after the end differs: [0-9a-f]{64} and [0-9a-f]{64}$')
+        self.assertEqual(lines[2], 'first differing cell: (1, 0): 0002 and 0003')
+
+    def test_other_sizes(self):
+        status, lines = self.compare(film(1), film(1).gp0(c.fill(1, 0, 0, 16, 1)).gp1(5 << 24), 'd.png')
+        self.assertEqual((status, lines[0]), (1, 'first differing frame: 2, event 8 of theirs alone'))
+        self.assertEqual(lines[2], 'no picture is written: one recording alone has the frame')
+        status, lines = self.compare(film(1), c.Capture().gp0(c.fill(1, 0, 0, 16, 1), c.fill(1, 0, 0, 16, 1))
+                                     .gp1(5 << 24), 'd.png')
+        self.assertEqual((status, lines[0]), (1, 'first differing frame: 1, event 4 and event 7'))
+        self.assertEqual(lines[2], 'no picture is written: the frames are not of one size')
+        self.assertFalse(os.path.exists(self.path('d.png')))
+
+    def test_refused(self):
+        """A difference before the refusal is found; else the refusal is the error."""
+        self.assertEqual(self.compare(film(1, 99), film(1, 2)), (
+            2, 'psxgpu compare: ours: small: no 99 at event 7; 1 frames before that are equal\n'))
+        self.assertEqual(self.compare(film(1, 99), film(2, 2))[0], 1)
+
+    def test_other_kinds(self):
+        self.assertEqual(self.compare(film(1), bytes(2048)), (
+            2, 'psxgpu compare: ours and theirs: one is a recording\n'))
+        self.assertEqual(self.compare(film(1), film(1), '--tolerance', '3')[0], 2)

@@ -1,0 +1,1 @@
+"""Builds the module and the pages for browsers: `python3 -m web.build`."""

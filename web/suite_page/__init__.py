@@ -1,0 +1,1 @@
+"""The page of the conformance suite: `python3 -m web.suite_page.pack` makes it."""

@@ -1,0 +1,77 @@
+// What the packet at this place says: its fields, its vertices, its words.
+
+import { rowAddress } from '../playing/address.js';
+import { KIND } from './rows.js';
+import { element, grouped, made, swatch, tableOf } from './dom.js';
+import { cssOf, offsetOf } from '../reading/fields.js';
+import { hex, nameOf } from '../reading/names.js';
+import { packetOf } from '../reading/packet.js';
+import { controlText, fieldsOf, settingText } from '../reading/words.js';
+
+/** The row at this place with all that is known of it, or null. */
+export function rowHere({ recording, row, registers }) {
+    if (!recording || row < 0) return null;
+    const { rows, track, height } = recording;
+    const kind = rows.kind[row], head = rows.head[row], words = kind >= KIND.READS ? [] : rows.words(row, track);
+    const packet = rows.isPacket(row) ? packetOf(kind, head, words, { registers, height }) : {};
+    return { row, kind, head, words, packet, area: rows.area(row), isKnown: rows.near[row] !== 0xFFFFFFFE };
+}
+
+// The vertices as the words have them, and the cells that they are at with the drawing offset added.
+function verticesOf(packet, offset) {
+    const textured = packet.vertices[0].u !== undefined, isMoved = offset.x !== 0 || offset.y !== 0;
+    const table = made('table');
+    const head = table.createTHead().insertRow();
+    const titles = ['vertex', ...(isMoved ? ['with offset'] : []), 'colour', ...(textured ? ['u, v'] : [])];
+    head.append(...titles.map(text => Object.assign(made('th', '', text), { scope: 'col' })));
+    for (const { x, y, color, u, v } of packet.vertices) {
+        const line = table.insertRow();
+        const shown = color === undefined ? '' : [swatch(cssOf(color)), ` ${cssOf(color)}`];
+        line.append(made('td', 'mono', `(${x}, ${y})`));
+        if (isMoved) line.append(made('td', 'mono', `(${x + offset.x}, ${y + offset.y})`));
+        line.append(made('td', 'mono', ...shown));
+        if (textured) line.append(made('td', 'mono', `${u}, ${v}`));
+    }
+    return table;
+}
+
+export class PacketPanel {
+    constructor(app) {
+        this.app = app;
+        app.on('opened moved', () => this.draw());
+    }
+
+    draw() {
+        const here = rowHere(this.app), panel = element('packet');
+        if (!here) {
+            panel.replaceChildren(made('p', 'quiet', 'Before the first packet.'));
+            return;
+        }
+        const { recording } = this.app, { rows, track } = recording, { kind, head, words, packet, row } = here;
+        const done = recording.endOf(row), event = rowAddress(recording, row);
+        const tells = { [KIND.GP1]: controlText, [KIND.SETTING]: settingText }[kind];
+        const told = tells?.(head, recording.height);
+        const count = rows.done[row] - rows.first[row] + 1;
+        panel.replaceChildren(tableOf([
+            ['event', done > rows.done[row] + 1 ? `${event}, with its data ${track.event(done - 1)}` : String(event)],
+            ['name', made('b', '', nameOf(kind, head)), ...(kind === KIND.GP1 ? [' (GP1)'] : [])],
+            told && ['says', told],
+            kind >= KIND.READS && ['reads', grouped(count)],
+            packet.color !== undefined && ['colour', swatch(cssOf(packet.color)), ` ${cssOf(packet.color)}`],
+            ...fieldsOf(kind, head, packet, this.app.registers),
+            ['area', this.areaText(here)],
+        ]), ...(packet.vertices ? [verticesOf(packet, offsetOf(this.app.registers[4]))] : []),
+        ...this.wordsOf(words, done - rows.done[row] - 1));
+    }
+
+    areaText({ area, isKnown }) {
+        if (!isKnown) return 'not played yet';
+        return area ? `(${area.x1}, ${area.y1}) to (${area.x2}, ${area.y2})` : 'none';
+    }
+
+    wordsOf(words, data) {
+        if (words.length === 0) return [];
+        const more = data > 0 ? ` and ${grouped(data)} steps of data` : '';
+        return [made('p', 'words', words.map(word => hex(word)).join(' ') + more)];
+    }
+}

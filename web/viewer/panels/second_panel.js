@@ -1,0 +1,117 @@
+// What the panel Compare does with a second recording: both side by side, step by step, and where they part.
+
+import { rowAddress, addressOf } from '../playing/address.js';
+import { Difference } from '../playing/compare.js';
+import { Diverge } from '../playing/diverge.js';
+import { button, counted, element, grouped, made, tableOf } from './dom.js';
+import { Machine } from '../playing/machine.js';
+import { hex, nameOf } from '../reading/names.js';
+import { Player } from '../playing/player.js';
+import { Second, samePlace } from '../playing/second.js';
+
+export class SecondPanel {
+    /**
+     * @param {App} app
+     * @param {HTMLElement} panel what it writes to
+     * @param {() => void} leave ends the comparison
+     */
+    constructor(app, panel, leave) {
+        Object.assign(this, { app, panel, leave, second: null, parting: null, told: '' });
+    }
+
+    // A recording with the starts of its frames.
+    side(recording) { return { recording, starts: recording[this.app.framesBy] }; }
+
+    /** Shows a recording beside the one that is open, and looks for where they part. */
+    async open(recording) {
+        const { app } = this, second = this.second = new Second(recording, app.library);
+        app.beside = this;
+        app.show();
+        app.tell('second');
+        await second.playAll(part => this.tell(`playing ${recording.name}: ${Math.round(100 * part)} %`));
+        if (second !== this.second) return;
+        app.show();
+        await this.find(second);
+    }
+
+    async find(second) {
+        const { app } = this;
+        app.readAhead(app.pass);
+        while (second === this.second && !app.pass.isDone()) {
+            this.tell('waiting until the open recording is played');
+            await new Promise(go => setTimeout(go, 100));
+        }
+        if (second !== this.second) return;
+        const machines = [new Machine(app.library), new Machine(app.library)];
+        const sides = [app.recording, second.recording].map((recording, k) =>
+            ({ ...this.side(recording), player: new Player(recording, machines[k]) }));
+        this.diverge = new Diverge(...sides);
+        try {
+            this.parting = await this.diverge.find((text, part) => this.tell(`${text}: ${Math.round(100 * part)} %`));
+        } finally {
+            machines.forEach(machine => machine.close());
+        }
+        if (second === this.second) this.tell('');
+    }
+
+    /** Ends the comparison. */
+    close() {
+        if (this.diverge) this.diverge.isStopped = true;
+        this.second?.close();
+        Object.assign(this, { second: null, parting: null, diverge: null, told: '' });
+        this.app.beside = null;
+        this.app.tell('second');
+    }
+
+    tell(text) {
+        this.told = text;
+        if (this.second) this.draw();
+    }
+
+    /** Shows the second recording at the place that is as far in its frame as this one. */
+    follow() {
+        const { app, second } = this;
+        if (!second || !app.recording) return;
+        second.show(samePlace({ ...this.side(app.recording), at: app.at }, this.side(second.recording)));
+        app.difference = second.cells && new Difference({ view: 'memory', cells: second.cells }, second.recording.name, true);
+        app.difference?.look(app);
+        element('here').textContent = `${app.recording.name}  ${addressOf(app.recording, app.at)}`;
+        element('there').textContent = `${second.recording.name}  ${addressOf(second.recording, second.at)}`;
+    }
+
+    draw() {
+        const { app, second, told } = this, { count, box, problem } = app.difference ?? {};
+        if (!second) return;
+        const cells = count && `${counted(count, 'cells')}, in ${box.x1} ${box.y1} ${box.x2} ${box.y2}`;
+        const differ = second.cells ? problem ?? (cells || 'nothing') : 'not played so far';
+        this.panel.replaceChildren(tableOf([
+            ['with', second.recording.name],
+            ['place there', addressOf(second.recording, second.at)],
+            ['differs here', differ],
+            ...(told ? [['looking', told]] : this.partingRows()),
+        ]), ...(count ? [button('Go to it', () => app.tell('goto'))] : []), button('Leave', () => this.leave()));
+    }
+
+    partingRows() {
+        const { parting } = this;
+        if (!parting) return [];
+        const { row, frame, rowA, rowB } = parting;
+        if (row < 0 && frame < 0) return [['all words', 'are the same']];
+        return [
+            row >= 0 && ['first words', ...this.pair(row, row)],
+            ['first frame', frame < 0 ? 'none: all are the same' : frame === 0 ? 'before the first' : grouped(frame)],
+            rowA !== undefined && ['first packet', ...this.pair(rowA, rowB)],
+        ];
+    }
+
+    // A row here and one there, each with its address; the one here is gone to.
+    pair(rowA, rowB) {
+        const { app, second } = this;
+        const text = (recording, row) => row >= recording.rows.length ? 'its end'
+            : `${rowAddress(recording, row)} ${nameOf(recording.rows.kind[row], recording.rows.head[row])} `
+                + hex(recording.rows.head[row]);
+        const last = Math.min(rowA, app.recording.rows.length - 1);
+        return [button(`here ${text(app.recording, rowA)}`, () => app.seekRow(last)), made('br'),
+            `there ${text(second.recording, rowB)}`];
+    }
+}

@@ -1,0 +1,72 @@
+// Plays a recording once from its start, slice by slice: keeps the state before a slice, and plays it with the machine's
+// notes, which give the areas of its packets. It can be stopped and gone on with.
+
+import { KIND, NO_AREA } from '../panels/rows.js';
+import { playOther, toStart } from './player.js';
+
+// Milliseconds that a slice is to be played in, and how many steps it has at least and at most.
+const WANTED = 16, LEAST = 16384, MOST = 65536;
+
+export class Pass {
+    constructor(recording, machine) {
+        Object.assign(this, { recording, machine, at: 0, row: 0, slice: 4096, count: 0, every: 1 });
+        toStart(machine, recording);
+    }
+
+    isDone() { return this.at >= this.recording.track.length; }
+
+    // Plays the next slice.
+    turn() {
+        const { machine, recording } = this;
+        this.keep(machine.stateView());
+        const started = performance.now();
+        this.play(Math.min(this.at + this.slice, recording.length));
+        this.fit(performance.now() - started);
+    }
+
+    // Longer slices where they are played in a short time, and shorter ones where not.
+    fit(played) {
+        if (played < WANTED / 2) this.slice = Math.min(2 * this.slice, MOST);
+        else if (played > 2 * WANTED) this.slice = Math.max(this.slice >> 1, LEAST);
+    }
+
+    // Keeps a state, or every second, fourth .. where they would be too many.
+    keep(state) {
+        const { keyframes } = this.recording;
+        if (this.count++ % this.every !== 0) return;
+        keyframes.add(this.at, state);
+        if (!keyframes.isFull) return;
+        keyframes.thin();
+        this.every *= 2;
+    }
+
+    // Plays up to a step, and puts the areas of its packets into their rows.
+    play(to) {
+        const { machine, recording: { track } } = this;
+        while (this.at < to) {
+            const run = track.run(this.at, to);
+            if (run.length > 0) this.write(machine.gp0NotesView(run), this.at);
+            else playOther(machine, track.kind(this.at), track.word(this.at));
+            this.at += run.length || 1;
+        }
+    }
+
+    // Puts areas into the rows of the items that are told of; places count from this step.
+    write(notes, first) {
+        const { rows } = this.recording;
+        for (let k = 0; k < notes.length; k++) {
+            while (this.row < rows.length && !rows.isPacket(this.row)) this.row++;
+            this.writeArea(this.row++, notes, k, first);
+        }
+    }
+
+    writeArea(row, notes, k, first) {
+        const { rows } = this.recording, kind = rows.kind[row] === KIND.JOINT ? KIND.LINE : rows.kind[row];
+        if (first + notes.word(k) !== rows.done[row] || notes.head(k) !== rows.head[row] || notes.classNumber(k) !== kind) {
+            throw new Error(`row ${row}: the machine tells of another packet`);
+        }
+        const area = notes.area(k);
+        if (area) rows.setArea(row, ...area);
+        else rows.near[row] = NO_AREA;
+    }
+}

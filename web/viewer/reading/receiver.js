@@ -1,0 +1,27 @@
+// Takes the files that a reader chooses or drops: recordings are opened, and for pictures and dumps Compare is offered.
+
+import { element } from '../panels/dom.js';
+import { pictureKind } from './file_kind.js';
+
+export class Receiver {
+    /**
+     * @param {App} app
+     * @param {ComparePanel} compare
+     */
+    constructor(app, compare) { Object.assign(this, { app, compare }); }
+
+    /**
+     * @param {Blob} file
+     * @param {string} name
+     * @param {{example: string}} from the example that it is, if it is one
+     */
+    async open(file, name, from = {}) {
+        const { app, compare } = this, kind = await pictureKind(file);
+        if (kind) {
+            app.say(`${name} is ${kind}, and not a recording. Compare shows where it differs from what is seen here.`,
+                app.recording && { text: 'Compare it', does: () => { app.say(''); compare.open(file, name); } });
+        } else if (await app.open(file, name, from)) {
+            element('list').focus({ preventScroll: true });
+        }
+    }
+}
