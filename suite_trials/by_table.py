@@ -36,7 +36,7 @@ def marked() -> Marked:
 
 def is_found(fault: TableFault, tests: List[Test], judge: Judge) -> bool:
     """Returns whether one of the tests fails on the model with the fault."""
-    judge.player = planted(fault.kind, fault.method, fault.broken)
+    judge.player = planted(fault.kind.__eq__, fault.method, fault.broken)
     return any(judge.judge(test).kind != PASSED for test in tests)
 
 

@@ -27,6 +27,7 @@ class KindMachine(Machine):
     first = 0
     corner = Vertex(0)
     count = 0                       # of the halves of a load or a store
+    rows_filled = 0                 # of the last fill
 
     def polygon(self, words: list[int]) -> None:
         self.first = words[0]
@@ -51,7 +52,7 @@ class KindMachine(Machine):
         super().joint_word(word)
 
     def fill(self, words: list[int]) -> None:
-        self.kinds = (FILL,)
+        self.kinds, self.rows_filled = (FILL,), words[2] >> 16 & 0x1FF
         super().fill(words)
 
     def copy(self, words: list[int]) -> None:
@@ -97,12 +98,12 @@ class KindModel(Model):
     machine = KindMachine
 
 
-def planted(kind: Kind, method: str, broken: Callable[..., Any]) -> KindModel:
-    """Returns a model that has a fault in one kind of packet. `broken`: the machine, the method without the fault, and
+def planted(is_it: Callable[[Kind], bool], method: str, broken: Callable[..., Any]) -> KindModel:
+    """Returns a model that has a fault in some kinds of packet. `broken`: the machine, the method without the fault, and
     its arguments."""
     whole = getattr(KindMachine, method)
 
     def changed(m: KindMachine, *words: Any) -> Any:
-        is_there = kind in (m.pending() if method == 'gp1' else m.kinds)
+        is_there = any(map(is_it, m.pending() if method == 'gp1' else m.kinds))
         return broken(m, whole, *words) if is_there else whole(m, *words)
     return KindModel(**{method: changed})

@@ -25,7 +25,11 @@ class TableFault(NamedTuple):
 FAULTS: list[TableFault] = []
 
 
-def where(rule: str, says: str, method: str, broken: Broken, is_it: Callable[[Kind], bool] = lambda kind: True) -> None:
+def every(kind: Kind) -> bool:
+    return True
+
+
+def where(rule: str, says: str, method: str, broken: Broken, is_it: Callable[[Kind], bool] = every) -> None:
     """Plants a fault in each kind of packet that has the rule and is accepted."""
     FAULTS.extend(TableFault(rule, says, kind, method, broken) for kind in KINDS
                   if not REASONS[rule](kind) and is_it(kind))
@@ -47,7 +51,7 @@ def is_raw(kind: Kind) -> bool:
     return 'raw' in kind.look
 
 
-def moved(rule: str, says: str, broken: Callable[[K, int, int], Optional[Tuple[int, int]]]) -> None:
+def moved(rule: str, says: str, broken: Callable[..., Optional[Tuple[int, int]]]) -> None:
     """Plants a fault in each transfer: other places for its cells, or None for a cell that is left out."""
     def put(m: K, old: Broken, x: int, y: int, value: int) -> None:
         place = broken(m, x, y)

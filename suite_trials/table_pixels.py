@@ -5,6 +5,7 @@ from typing import Any
 
 from suite_trials.model.pixels import TABLE
 from suite_trials.model.values import channels
+from psxgpu.conformance.packets import LINES, POLYGONS
 from suite_trials.table_faults import Broken, K, is_drawn, is_raw, shape, where
 from psxgpu.conformance.table import BITS, BLENDS
 
@@ -47,6 +48,13 @@ where('bit 15 is cleared', 'it stays', 'fill_cell', lambda m, old, x, y, v: old(
       shape('fill'))
 where('shading', 'there is none', 'pixel', flat, lambda kind: not is_raw(kind))
 where('shading', 'raw texels are multiplied', 'pixel', raw_or_not, is_raw)
+where('rounding of colours', 'to the nearest', 'mean', lambda m, old, total, area: (2 * total + area) // (2 * area),
+      lambda kind: kind.family == POLYGONS and not is_raw(kind))
+where('rounding of colours', 'raw texels are multiplied', 'pixel', raw_or_not, is_raw)
+where('rounding of colours', 'halves go down', 'along', lambda m, old, i, j, k, n: i - (2 * k * (i - j) + n) // (2 * n),
+      lambda kind: kind.family == LINES)
+where('rounding of colours', 'down', 'along', lambda m, old, i, j, k, n: i + k * (j - i) // n,
+      lambda kind: kind.family == LINES)
 where('dither', 'the other way round', 'pixel', not_dithered, is_drawn)
 where('dither', 'there is one', 'fill_cell', dithered_fill, shape('fill'))
 where('place in the dither table', 'it begins at the drawing area', 'dither',

@@ -36,7 +36,7 @@ def counted_from_the_cut(is_y: bool) -> Broken:
 
 def placed(change: Callable[[int, int], Tuple[int, int]]) -> Broken:
     def vertex(m: K, old: Broken, v: Vertex) -> Vertex:
-        there = old(m, v)
+        there: Vertex = old(m, v)
         there.x, there.y = change(there.x, there.y)
         return there
     return vertex
@@ -44,7 +44,7 @@ def placed(change: Callable[[int, int], Tuple[int, int]]) -> Broken:
 
 def with_twelve_bits(m: K, old: Broken, v: Vertex) -> Vertex:
     """A vertex keeps the bit above its eleven."""
-    there = old(m, v)
+    there: Vertex = old(m, v)
     there.x += 2048 * (v.word >> 11 & 1)
     there.y += 2048 * (v.word >> 27 & 1)
     return there
@@ -53,7 +53,8 @@ def with_twelve_bits(m: K, old: Broken, v: Vertex) -> Vertex:
 def outside(rule: str, says: str, number: int, bound: int) -> None:
     """A rectangle beyond a bound is left out as a whole."""
     def area(m: K, old: Broken) -> Box:
-        return (1, 1, 0, 0) if (m.corner.x, m.corner.y)[number] > bound else old(m)
+        whole: Box = old(m)
+        return (1, 1, 0, 0) if (m.corner.x, m.corner.y)[number] > bound else whole
     where(rule, says, 'area', area, of(RECTANGLES))
 
 
@@ -73,8 +74,11 @@ for _at, _edge in enumerate(EDGES):
 for _at, _rules in enumerate((('area: left', 'left of X 0'), ('area: top', 'above Y 0'))):
     for _rule in _rules:
         where(_rule, 'the texels begin at the cut', 'texture_place', counted_from_the_cut(_at == 1), has_many_cells)
-where('left of X 0', 'X is 0 at least', 'placed', placed(lambda x, y: (max(x, 0), y)))
-where('above Y 0', 'Y is 0 at least', 'placed', placed(lambda x, y: (x, max(y, 0))))
+where('left of X 0', 'X is 0 at least', 'placed', placed(lambda x, y: (max(x, 0), y)), lambda kind: kind.family != LINES)
+where('above Y 0', 'Y is 0 at least', 'placed', placed(lambda x, y: (x, max(y, 0))), lambda kind: kind.family != LINES)
+for _at, _rule in enumerate(('left of X 0', 'above Y 0')):
+    where(_rule, 'it is left out', 'is_near', lambda m, old, points, at=_at: (
+        old(m, points) and all((p.x, p.y)[at] >= 0 for p in points)), lambda kind: kind.family != RECTANGLES)
 outside('right of X 1023', 'it is left out', 0, 1023 - 8)
 where('below Y 511', 'Y has nine bits', 'placed', placed(lambda x, y: (x, y & 511)), lambda kind: (
     kind.family != RECTANGLES or kind.shape == '1 by 1'))
@@ -109,6 +113,17 @@ for _says, _is_it in TRIANGLES:
 for _says, _sign in (('left', (-1, 0)), ('right', (1, 0)), ('up', (0, -1)), ('down', (0, 1))):
     where('order of vertices', 'a line to the %s is left out' % _says, 'is_near', lambda m, old, p, sign=_sign: (
         old(m, p) and not ((p[1].x - p[0].x) * sign[0] > 0 or (p[1].y - p[0].y) * sign[1] > 0)), of(LINES))
+
+
+for _says, _method, _broken in (
+        ('a right edge is drawn in place of a left one', 'is_in', lambda m, old, v, p, q: (
+            v > 0 or v == 0 and (q.y > p.y or q.y == p.y and q.x > p.x))),
+        ('a lower edge is drawn, too', 'is_in', lambda m, old, v, p, q: old(m, v, p, q) or v == 0 and q.y == p.y),
+        ('no cell on an edge is drawn', 'is_in', lambda m, old, v, p, q: v > 0)):
+    where('cells of a slope', _says, _method, _broken, of(POLYGONS))
+where('cells of a slope', 'halves go down', 'along', lambda m, old, i, j, k, n: i - (2 * k * (i - j) + n) // (2 * n), of(LINES))
+where('cells of a slope', 'coordinates are rounded down', 'along', lambda m, old, i, j, k, n: i + k * (j - i) // n, of(LINES))
+where('cells of a slope', 'the last point is left out', 'last_point', lambda m, old, n: n - 1, of(LINES))
 
 
 def far_in(is_y: bool, points: Points) -> int:

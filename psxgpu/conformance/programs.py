@@ -20,7 +20,7 @@ from psxgpu.console.orders import Kind, Orders
 from psxgpu.console.plan import Plan
 from psxgpu.stream import READ, STAT, Stream
 
-MOST_CHAPTERS = 10                      # of a page
+MOST_CHAPTERS, MOST_TESTS = 10, 160     # of a program: its page has room for ten, and it ends within a minute
 LEFT, ACROSS, PITCH = 144, 20, 8        # of the squares
 HEADS = 2                               # lines above the chapters
 SPARE = 16                              # words that end a packet which an emulator did not drop at the reset
@@ -127,7 +127,7 @@ def programs(tests: Iterable[Test]) -> List[Program]:
     """Returns the programs of those tests that a program can hold: all tests of a chapter are in one program."""
     held = [test for test in tests if is_held(test)]
     chapters = list(dict.fromkeys(test.chapter for test in held))
-    number = -(-len(chapters) // MOST_CHAPTERS)
+    number = max(-(-len(chapters) // MOST_CHAPTERS), -(-len(held) // MOST_TESTS))
     most = -(-len(chapters) // number) if number else 0
     return [Program([test for test in held if test.chapter in chapters[most * k:most * (k + 1)]]) for k in range(number)]
 

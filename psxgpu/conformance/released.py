@@ -11,7 +11,7 @@ from typing import Dict, Iterable, Iterator, List, Tuple
 
 from psxgpu.conformance.suite import Test
 
-SUITE = 1
+SUITE = 2
 WITHDRAWN: Dict[str, str] = {}          # full name: the reason
 COLUMNS = ('test', 'decides', 'capture', 'vram', 'ignored', 'picture', 'words')
 

@@ -78,6 +78,14 @@ def ordered(kind: Kind) -> str:
     return '' if kind.family in (POLYGONS, LINES) else 'has no second vertex'
 
 
+def sloped(kind: Kind) -> str:
+    return '' if kind.family in (POLYGONS, LINES) else 'has no slope'
+
+
+def mapped(kind: Kind) -> str:
+    return textured(kind) or ('has U and V one to one' if kind.family == RECTANGLES else '')
+
+
 def limited(kind: Kind) -> str:
     if kind.family == RECTANGLES:
         return '' if kind.shape == 'given size' else 'has a fixed size'
@@ -108,7 +116,7 @@ def by_depth(rule: str, count: int = 3, first: int = 0) -> Dict[str, Reason]:
 
 
 REASONS: Dict[str, Reason] = {
-    'colour': colored, 'bit 15 is cleared': cleared, 'shading': shaded,
+    'colour': colored, 'bit 15 is cleared': cleared, 'shading': shaded, 'rounding of colours': shaded,
     'dither': moves, 'place in the dither table': dithered,
     **{rule: drawn for rule in BLENDS}, 'opaque': moves, **by_depth('bit 15 chooses blending'),
     'modulation or raw': textured, 'limit of modulation': textured,
@@ -116,11 +124,11 @@ REASONS: Dict[str, Reason] = {
     'offset in X': every, 'offset in Y': every,
     **{'area: ' + edge: every for edge in ('left', 'top', 'right', 'bottom')},
     'left of X 0': cut, 'above Y 0': cut, 'right of X 1023': cut_right, 'below Y 511': cut,
-    'bits above the coordinates': every, 'order of vertices': ordered,
+    'bits above the coordinates': every, 'order of vertices': ordered, 'cells of a slope': sloped,
     'size rule in X': limited, 'size rule in Y': limited, 'size 0': sized,
     **by_depth('page X'), **by_depth('page Y'), **by_depth('palette X', 2), **by_depth('palette Y', 2), **by_depth('U'),
     **by_depth('V'), **by_depth('texel 0000h'), **by_depth('bit 15 of a texel'), **by_depth('page wraps', 3, 1),
-    'palette wraps': textured,
+    'palette wraps': textured, 'rounding of U and V': mapped,
     'window: mask of U': textured, 'window: mask of V': textured, 'window: offset of U': textured,
     'window: offset of V': textured, 'flip in X': flipped, 'flip in Y': flipped, 'both flips': flipped,
     'U from 255 to 0': wrapped_texels, 'V from 255 to 0': wrapped_texels,

@@ -1,6 +1,8 @@
 """Rules of pixels in each kind of packet: colour, dither, blending, mask setting, modulation."""
 from __future__ import annotations
 
+from typing import Tuple
+
 from psxgpu.capture import drawing_area, drawing_offset, mask_setting
 from psxgpu.conformance.across import (CLUT, DEEP, DEPTHS, NEUTRAL, PAGE_X, Value, across, expect, is_textured, mode,
                                        page_of, palette, texels, textured, under)
@@ -58,17 +60,14 @@ def steps_of_lines(t: Draft, drawer: Drawer, x: int, y: int) -> None:
     expect(t, drawer, x, y, lambda i, j: cell(i, j, 0))
 
 
-def grey(drawer: Drawer) -> int:
-    """The channel of 8 bits before the dither: that of the colour, or of the texel 8 under the colour 80h."""
-    return 64 if drawer.is_textured else GREY
-
-
-def dithers(t: Draft, drawer: Drawer, x: int, y: int, left: int = 0, top: int = 0) -> None:
-    """Draws a box at vertices that are moved, and expects the table where it holds."""
+def dithers(t: Draft, drawer: Drawer, x: int, y: int, color: int = 0x80, left: int = 0, top: int = 0) -> None:
+    """Draws a box at vertices that are moved, and expects the table where it holds. `color`: of each channel under a
+    texel 8; 80h leaves 64 before the dither, by any rule of modulation."""
     mode(t, page_of(2), dither=True)
-    t.packet(drawer.words(x - left, y - top, NEUTRAL if drawer.is_textured else GREY * 0x10101, page=page_of(2)))
+    grey = 8 * 8 * color // 128 if drawer.is_textured else GREY
+    t.packet(drawer.words(x - left, y - top, (color if drawer.is_textured else GREY) * 0x10101, page=page_of(2)))
     expect(t, drawer, x, y, lambda i, j: 0x421 * (
-        dither.dithered(grey(drawer), x + i, y + j) if drawer.is_dithered else grey(drawer) // 8))
+        dither.dithered(grey, x + i, y + j) if drawer.is_dithered else 8))
 
 
 @across(dither.CHAPTER, 'table', 'Where it holds, the table is added in {}, and nowhere else.', ('dither',),
@@ -86,13 +85,18 @@ def moved(t: Draft) -> None:
 @across(dither.CHAPTER, 'place', 'In {} the table begins at (0, 0), whatever the drawing area and the offset are.',
         ('place in the dither table',), (POLYGONS, LINES), OWN, only=lambda drawer: drawer.is_dithered, before=moved)
 def dither_place(t: Draft, drawer: Drawer, x: int, y: int) -> None:
-    dithers(t, drawer, x + 6, y + 7, 5, 6)
+    dithers(t, drawer, x + 6, y + 7, 0x8E, 5, 6)
 
 
 # Blending: values for which the sum is even and F a multiple of 4.
 
 FRONT = 16, 8, 4
 BACKS = (8, 12, 20), (20, 28, 10)
+
+
+def blended(number: int, backs: Tuple[int, int, int]) -> int:
+    """Returns FRONT on a background by a mode."""
+    return cell(*[blending.MODES[number](back, front) for back, front in zip(backs, FRONT)])
 
 
 def blends(number: int) -> None:
@@ -103,9 +107,7 @@ def blends(number: int) -> None:
         under(t, drawer, x, y, lambda i, j: cell(*BACKS[i >= 4]))
         mode(t, page_of(2, number))
         t.packet(drawer.words(x, y, NEUTRAL if drawer.is_textured else 0x204080, page=page_of(2, number), semi=True))
-        expect(t, drawer, x, y, lambda i, j: cell(
-            *(blending.MODES[number](back, front) for back, front in zip(BACKS[i >= 4], FRONT)),
-            mask=int(drawer.is_textured)), is_twice=True)
+        expect(t, drawer, x, y, lambda i, j: blended(number, BACKS[i >= 4]) | drawer.is_textured << 15, is_twice=True)
 
 
 for _number in range(4):
@@ -141,8 +143,7 @@ def blended_texels(t: Draft, drawer: Drawer, x: int, y: int) -> None:
         under(t, drawer, x, down, lambda i, j: cell(*BACKS[0]))
         mode(t, page)
         textured(t, drawer, (x, down), (0, 0), page, CLUT, semi=True)
-        expect(t, drawer, x, down, lambda i, j: (
-            cell(*(back + front for back, front in zip(BACKS[0], FRONT)), mask=1) if i & 1 else cell(*FRONT)), True)
+        expect(t, drawer, x, down, lambda i, j: 0x8000 | blended(1, BACKS[0]) if i & 1 else cell(*FRONT), True)
 
 
 @across(mask.CHAPTER, 'bit-15-forced', 'Bit 0: {} sets bit 15 of what it draws.', ('mask set',),

@@ -42,6 +42,22 @@ def offset(t: Draft, drawer: Drawer, x: int, y: int) -> None:
     shows(t, drawer, x, y)
 
 
+def there_and_back(t: Draft, drawer: Drawer, x: int, y: int, corners: List[int]) -> None:
+    """Draws the upper two of four lines to the right and the lower two to the left, so that an edge cuts each segment of a
+    polyline."""
+    x1, y1, x2, y2 = corners
+    for down in range(4):
+        ends = [x, x + 4, x + 8] if down < 2 else [x + 8, x + 4, x]
+        points = [(at, y + down) for at in (ends if len(drawer.kinds) > 1 else ends[::2])]
+        t.packet(line(points, [COLOR] * len(points) if drawer.is_shaded else COLOR))
+        for at in range(x, x + 9):
+            if x1 <= at <= x2 and y1 <= y + down <= y2:
+                t.cell(at, y + down, rgb(COLOR))
+            elif at < x + 8:
+                t.cell(at, y + down, 0x0421)
+        t.ignore(*points[-1], 1)
+
+
 def cut(number: int) -> None:
     """A test of an edge of the drawing area, two cells inside of each box."""
     @across(area.CHAPTER, EDGES[number] + '-edge', 'The %s edge of the drawing area cuts {}; what is left keeps its texels.'
@@ -51,13 +67,25 @@ def cut(number: int) -> None:
         corners[number] = (x + 2, y + 2, x + drawer.width - 3, y + drawer.height - 3)[number]
         t.before(drawing_area(*corners))
         under(t, drawer, x, y, lambda i, j: 0x0421)
-        t.packet(words(drawer, x, y))
         x1, y1, x2, y2 = corners
+        if drawer.family == LINES:
+            there_and_back(t, drawer, x, y, corners)
+            return
+        t.packet(words(drawer, x, y))
         expect(t, drawer, x, y, lambda i, j: value(drawer, i, j) if x1 <= x + i <= x2 and y1 <= y + j <= y2 else 0x0421)
 
 
 for _number in range(4):
     cut(_number)
+
+
+def upright(t: Draft, drawer: Drawer, x: int, y: int) -> None:
+    """Draws a line downward that an edge of video memory cuts, its last point outside or not judged."""
+    points = [(x, y + at) for at in ((0, 8) if len(drawer.kinds) == 1 else (0, 4, 8))]
+    t.packet(line(points, [COLOR] * len(points) if drawer.is_shaded else COLOR))
+    for down in range(max(y, 0), min(y + 8, 511)):
+        t.cell(x, down, rgb(COLOR))
+    t.ignore(x, min(y + 8, 511), 1)
 
 
 def over(name: str, side: str, rule: str, x: int, y: int, families: Sequence[str] = DRAWN) -> None:
@@ -71,8 +99,13 @@ def over(name: str, side: str, rule: str, x: int, y: int, families: Sequence[str
             loaded(t)
             for at, drawer in enumerate(some):
                 place = x or PITCH * (1 + at), y or PITCH * (1 + at)
+                if drawer.family == LINES and y:
+                    upright(t, drawer, *place)
+                    continue
                 t.packet(words(drawer, *place))
                 shows(t, drawer, *place)
+                if drawer.kinds[0].shape == '1 by 1' and x <= 0:         # one beside the box, outside of video memory
+                    t.packet(packets(drawer, *((-1, place[1] + 5) if x else (place[0] + 5, -1)))[0])
                 if name in ('right', 'bottom'):     # that the last column and row are in the drawing area is an own rule
                     t.ignore(*((1023, place[1], 1, drawer.height) if x else (place[0], 511, drawer.width, 1)))
         area.CHAPTER.add('%s-of-%s' % (name, family), '%s: what is %s is left out, and the rest keeps its texels.' % (
@@ -107,7 +140,7 @@ def packets(drawer: Drawer, x: int, y: int) -> List[List[int]]:
 @across(opcodes.CHAPTER, 'vertex-bits', 'Of the vertices of {} the bits above the eleventh are dropped.',
         ('bits above the coordinates',), before=loaded)
 def vertex_bits(t: Draft, drawer: Drawer, x: int, y: int) -> None:
-    t.packet([with_high_bits(drawer, packet) for packet in packets(drawer, x, y)])
+    t.packet(*(with_high_bits(drawer, packet) for packet in packets(drawer, x, y)))
     shows(t, drawer, x, y)
 
 

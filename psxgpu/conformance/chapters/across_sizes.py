@@ -57,7 +57,7 @@ def far(is_y: bool) -> None:
             'In {} vertices %d apart in %s are drawn, and vertices %d apart are not.' % (LAST[is_y], letter, LAST[is_y] + 1),
             (RULES[is_y],), (POLYGONS,), before=loaded)
     def of_polygons(t: Draft, drawer: Drawer, x: int, y: int) -> None:
-        at = 20 + 5 * y + x
+        at = 20 + 6 * y + x
         for area, _ in ends(is_y):
             t.before(area)
             for start, side in ((0, at), (-1, at + 10)):
@@ -126,8 +126,8 @@ def one_half(t: Draft, drawer: Drawer, x: int, y: int) -> None:
 @across(rectangles.CHAPTER, 'empty', 'With a width or a height of 0 nothing is drawn, in {}.', ('size 0',), (RECTANGLES,),
         only=lambda drawer: not drawer.opcode & 0x18, before=loaded)
 def empty(t: Draft, drawer: Drawer, x: int, y: int) -> None:
-    words = drawer.words(x, y, color(drawer))
+    words = drawer.words(x + 10, y + 10, color(drawer))
     for size in (2, 2 << 16):
         t.packet(words[:-1], size)
-    t.packet(drawer.words(x, y, color(drawer), page=page_of(2)))
+    t.packet(drawer.words(x, y, color(drawer)))
     expect(t, drawer, x, y, lambda i, j: CELL)

@@ -74,6 +74,25 @@ def ignores_area_and_offset(t: Draft) -> None:
     t.read(*words_of(cells))
 
 
+# Bits above the fields: what is after the transfer, and beside its source, shows the size.
+
+@loads.CHAPTER.test('After a load with bits above those of its size the next word is a packet.',
+                    marks=marks(['bits above the coordinates'], *LOADS))
+def bits_above_the_size(t: Draft) -> None:
+    t.packet(0xA0000000, 0xFE09FC11, 0xFE02FC02, 0x22221111, 0x44443333, fills.fill_words(64, 9, 16, 1))
+    t.row(0x11, 9, [0x1111, 0x2222])
+    t.row(0x11, 10, [0x3333, 0x4444])
+    t.box(64, 9, 16, 1, fills.CELL)
+
+
+@copies.CHAPTER.test('A copy with bits above those of its fields moves no cell more.',
+                     marks=marks(['bits above the coordinates'], COPY))
+def bits_above_the_size_too(t: Draft) -> None:
+    t.given(10, 4, 4, [0x1111] * 16)
+    t.packet(0x80000000, 0xFE04FC0A, 0xFE14FC14, 0xFE02FC02)
+    t.box(20, 20, 2, 2, 0x1111)
+
+
 # Each bit, in the low and in the high half of a word.
 
 BITS = [1 << at // 2 for at in range(32)]
