@@ -14,6 +14,7 @@ import sys
 from typing import Iterable, List
 
 from suite_trials import planted_cells, planted_registers, planted_shapes
+from suite_trials.kinds import planted
 from suite_trials.model import Model
 from suite_trials.planted import FAULTS, Fault
 from psxgpu.conformance.chapters import CHAPTERS

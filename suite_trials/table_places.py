@@ -123,7 +123,8 @@ for _says, _method, _broken in (
     where('cells of a slope', _says, _method, _broken, of(POLYGONS))
 where('cells of a slope', 'halves go down', 'along', lambda m, old, i, j, k, n: i - (2 * k * (i - j) + n) // (2 * n), of(LINES))
 where('cells of a slope', 'coordinates are rounded down', 'along', lambda m, old, i, j, k, n: i + k * (j - i) // n, of(LINES))
-where('cells of a slope', 'the last point is left out', 'last_point', lambda m, old, n: n - 1, of(LINES))
+where('cells of a slope', 'the last point is left out', 'last_point', lambda m, old, n: n - 1, lambda kind: (
+    kind.family == LINES and kind.shape != 'polyline'))
 
 
 def far_in(is_y: bool, points: Points) -> int:

@@ -79,13 +79,18 @@ for _number in range(4):
     cut(_number)
 
 
-def upright(t: Draft, drawer: Drawer, x: int, y: int) -> None:
-    """Draws a line downward that an edge of video memory cuts, its last point outside or not judged."""
-    points = [(x, y + at) for at in ((0, 8) if len(drawer.kinds) == 1 else (0, 4, 8))]
-    t.packet(line(points, [COLOR] * len(points) if drawer.is_shaded else COLOR))
-    for down in range(max(y, 0), min(y + 8, 511)):
-        t.cell(x, down, rgb(COLOR))
-    t.ignore(x, min(y + 8, 511), 1)
+def crossing(t: Draft, drawer: Drawer, x: int, y: int, is_down: bool) -> None:
+    """Draws a line over an edge of video memory, to the right or downward, and beside it one the other way."""
+    for number, ends in enumerate(((0, 4, 8), (8, 4, 0))):
+        points = [(x + 2 * number, y + at) if is_down else (x + at, y + 2 * number)
+                  for at in (ends if len(drawer.kinds) > 1 else ends[::2])]
+        t.packet(line(points, [COLOR] * len(points) if drawer.is_shaded else COLOR))
+        for at in range(9):
+            place = (x + 2 * number, y + at) if is_down else (x + at, y + 2 * number)
+            if place[0] >= 0 and 0 <= place[1] <= 511:
+                t.cell(*place, rgb(COLOR))
+                if place == points[-1] or place[1] == 511:
+                    t.ignore(*place, 1)
 
 
 def over(name: str, side: str, rule: str, x: int, y: int, families: Sequence[str] = DRAWN) -> None:
@@ -99,8 +104,8 @@ def over(name: str, side: str, rule: str, x: int, y: int, families: Sequence[str
             loaded(t)
             for at, drawer in enumerate(some):
                 place = x or PITCH * (1 + at), y or PITCH * (1 + at)
-                if drawer.family == LINES and y:
-                    upright(t, drawer, *place)
+                if drawer.family == LINES:
+                    crossing(t, drawer, *place, y != 0)
                     continue
                 t.packet(words(drawer, *place))
                 shows(t, drawer, *place)

@@ -12,6 +12,7 @@ from psxgpu.conformance.suite import OWN, Draft, cell, rgb
 COLOR = 0x5A9B3C
 Point = Tuple[int, int]
 HALVES = (((-8, 0), (8, 0), (8, 16)), ((8, 0), (8, 16), (-8, 32)))
+LOWER_EDGES = (((-8, 16), (8, 16), (8, 0)), ((8, 16), (8, 0), (24, 16)))
 
 
 def edge(a: Point, b: Point, x: int, y: int) -> int:
@@ -39,10 +40,11 @@ def plain(t: Draft) -> None:
         ('cells of a slope', 'left of X 0', 'above Y 0'), (POLYGONS,), OWN, before=plain)
 def slopes(t: Draft, drawer: Drawer, x: int, y: int) -> None:
     at = x // 20 + 6 * (y // 20)
-    for left, top in ((0, 40 * at + 20), (40, 40 * at + 20), (100 + 20 * at, -9)):
-        corners = [(left + i, top + j) for i, j in (*HALVES[0], HALVES[1][2])]
+    for left, top, halves in ((0, 40 * at + 20, HALVES), (40, 40 * at + 20, HALVES), (80, 40 * at + 20, LOWER_EDGES),
+                              (140 + 20 * at, -9, HALVES)):
+        corners = [(left + i, top + j) for i, j in (*halves[0], halves[1][2])]
         t.packet(drawer.polygons(corners, [NEUTRAL if drawer.is_textured else COLOR] * 4, [(0, 0)] * 4, page_of(2)))
-        for half in HALVES:
+        for half in halves:
             for i, j in covered(*half):
                 if left + i >= 0 and top + j >= 0:
                     t.cell(left + i, top + j, rgb(COLOR))
@@ -93,14 +95,14 @@ def exact(t: Draft, drawer: Drawer, x: int, y: int) -> None:
 @across(gouraud.CHAPTER, 'nearest', 'A channel is the nearest, halves upward, in {} that is shaded.',
         ('rounding of colours',), (LINES,), OWN, only=lambda drawer: drawer.is_shaded)
 def nearest_of_lines(t: Draft, drawer: Drawer, x: int, y: int) -> None:
-    ends = 0x071F10, 0xF805E3, 0x10F187
-    points = [(x + 13 * at, y) for at in range(1 + len(drawer.kinds))]
+    ends = 0x071F34, 0xF805A2, 0x10F10F         # red: where halves go decides its cell
+    points = [(x + 12 * at, y + x) for at in range(1 + len(drawer.kinds))]
     t.packet(line(points, list(ends[:len(points)])))
-    for at in range(13 * len(drawer.kinds) + 1):
-        part = min(at // 13, len(drawer.kinds) - 1)
+    for at in range(12 * len(drawer.kinds) + 1):
+        part = min(at // 12, len(drawer.kinds) - 1)
         first, last = ends[part], ends[part + 1]
-        t.cell(x + at, y, cell(*[nearest(first >> shift & 255, last >> shift & 255, at - 13 * part, 13) // 8
-                                 for shift in (0, 8, 16)]))
+        t.cell(x + at, y + x, cell(*[nearest(first >> shift & 255, last >> shift & 255, at - 12 * part, 12) // 8
+                                     for shift in (0, 8, 16)]))
 
 
 def mapped(name: str, says: str, first: int, other: int) -> None:

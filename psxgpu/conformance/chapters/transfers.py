@@ -57,7 +57,7 @@ def copied_beyond_the_area(t: Draft) -> None:
 
 @loads.CHAPTER.test('A load is not cut at any edge of the drawing area, nor moved by the drawing offset.', worked=FORMULA,
                     marks=marks(NOT_ASKED, *LOADS))
-def beyond_the_area_too(t: Draft) -> None:
+def loaded_beyond_the_area(t: Draft) -> None:
     small_area(t)
     t.packet(load(16, 16, 16, 8, numbers(128)))
     for y in range(8):
@@ -78,7 +78,7 @@ def ignores_area_and_offset(t: Draft) -> None:
 
 @loads.CHAPTER.test('After a load with bits above those of its size the next word is a packet.',
                     marks=marks(['bits above the coordinates'], *LOADS))
-def bits_above_the_size(t: Draft) -> None:
+def a_packet_after_bits_above(t: Draft) -> None:
     t.packet(0xA0000000, 0xFE09FC11, 0xFE02FC02, 0x22221111, 0x44443333, fills.fill_words(64, 9, 16, 1))
     t.row(0x11, 9, [0x1111, 0x2222])
     t.row(0x11, 10, [0x3333, 0x4444])
@@ -87,7 +87,7 @@ def bits_above_the_size(t: Draft) -> None:
 
 @copies.CHAPTER.test('A copy with bits above those of its fields moves no cell more.',
                      marks=marks(['bits above the coordinates'], COPY))
-def bits_above_the_size_too(t: Draft) -> None:
+def no_cell_more(t: Draft) -> None:
     t.given(10, 4, 4, [0x1111] * 16)
     t.packet(0x80000000, 0xFE04FC0A, 0xFE14FC14, 0xFE02FC02)
     t.box(20, 20, 2, 2, 0x1111)
