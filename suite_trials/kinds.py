@@ -99,8 +99,8 @@ class KindModel(Model):
 
 
 def planted(is_it: Callable[[Kind], bool], method: str, broken: Callable[..., Any]) -> KindModel:
-    """Returns a model that has a fault in some kinds of packet. `broken`: the machine, the method without the fault, and
-    its arguments."""
+    """Returns a model that has a fault in some kinds of packet. `broken` has the machine, the method without the fault,
+    and its arguments."""
     whole = getattr(KindMachine, method)
 
     def changed(m: KindMachine, *words: Any) -> Any:
