@@ -9,7 +9,7 @@ import subprocess
 import sys
 
 from psxgpu.capture import Capture
-from psxgpu.packets.split import ENVIRONMENT
+from psxgpu.packets.grammar import ENVIRONMENT
 from psxgpu.players import player
 from psxgpu.players.steps import Cutter
 from psxgpu.stream import GP0, Stream

@@ -3,7 +3,7 @@ import struct
 from typing import List, Sequence, Tuple
 
 from psxgpu.command import Readable, ToolError
-from psxgpu.packets.split import name_and_length
+from psxgpu.packets.grammar import name_and_length, words_of_cells
 
 STATE = 3 + 13      # height, events played, registers
 NOTHING, PACKET, PIXELS, POLYLINE = range(4)
@@ -32,7 +32,7 @@ class Words:
 def words_left(job: Sequence[int]) -> int:
     """Returns the missing data words of a load or store, by its x, y, w, h and the number of the next cell."""
     _, _, w, h, cell = job
-    return (w * h - cell + 1) // 2
+    return words_of_cells(w * h - cell)
 
 
 def job_text(job: Sequence[int]) -> str:

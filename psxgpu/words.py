@@ -5,6 +5,9 @@ A colour is a number whose lowest byte is red, the next green, the next blue: 0x
 """
 from typing import Iterable, List, Optional, Sequence, Tuple, Union
 
+from psxgpu.packets.grammar import POLYLINE_END
+from psxgpu.packets.parts import polygon_words
+
 Point = Tuple[int, int]
 Color = Union[int, Sequence[int]]       # one, or one for each point
 
@@ -127,14 +130,9 @@ def polygon(vertices: Sequence[Point], color: Color = 0, texture: Optional[Seque
     if texture is not None and len(texture) != len(vertices):
         raise ValueError('polygon texture: %d texcoords for %d vertices' % (len(texture), len(vertices)))
     opcode = 0x20 | shaded << 4 | (len(vertices) == 4) << 3 | (texture is not None) << 2 | bool(semi) << 1 | bool(raw)
-    words = [opcode << 24 | colors[0]]
-    for i, point in enumerate(vertices):
-        if shaded and i:
-            words.append(colors[i])
-        words.append(vertex(*point))
-        if texture is not None:
-            words.append(texcoord(*texture[i], attribute=(palette, page, 0, 0)[i]))
-    return words
+    attributes = (palette, page, 0, 0)
+    return polygon_words(opcode, [vertex(*point) for point in vertices], colors if shaded else colors[:1],
+                         [texcoord(*point, attribute) for point, attribute in zip(texture or (), attributes)])
 
 
 def line(points: Sequence[Point], color: Color = 0, semi: bool = False) -> List[int]:
@@ -149,7 +147,7 @@ def line(points: Sequence[Point], color: Color = 0, semi: bool = False) -> List[
         if shaded and i:
             words.append(colors[i])
         words.append(vertex(*point))
-    return words + ([0x50005000] if many else [])
+    return words + ([POLYLINE_END] if many else [])
 
 
 def rectangle(color: int, x: int, y: int, w: int, h: int, texture: Optional[Point] = None, palette: int = 0,

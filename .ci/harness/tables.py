@@ -26,7 +26,7 @@ from table_readers import (TAGS, Absent, Reader, Table, c_constants, c_lengths, 
 from suite_trials.model.packets import Packets
 from psxgpu import records
 from psxgpu.machine import MODES
-from psxgpu.packets.split import TABLE
+from psxgpu.packets.grammar import TABLE
 
 HEADER, RECORDER, MODE = 'c/psxgpu.h', 'recorder/psxgpu_capture.h', 'MODE_'
 NEVER = ('END', 'READ_FAULT')       # causes that no call returns: the header does not name them

@@ -9,7 +9,7 @@ from psxgpu.console import page, segments, sums
 from psxgpu.console.assembler import assemble
 from psxgpu.console.orders import OF_TESTS, WORDED, Kind, Orders
 from psxgpu.console.plan import Plan
-from psxgpu.packets.split import name_and_length
+from psxgpu.packets.grammar import name_and_length
 from psxgpu.stream import little
 
 FOLDER = os.path.join(os.path.dirname(os.path.abspath(__file__)), 'program')

@@ -5,7 +5,7 @@ from typing import List, NamedTuple
 from psxgpu.command import ToolError
 from psxgpu.console.orders import Kind, Orders
 from psxgpu.console.unfinished import Unfinished
-from psxgpu.packets.split import RESETS, name_and_length
+from psxgpu.packets.grammar import RESETS, name_and_length
 from psxgpu.stream import GP0, GP1, READ, SKIP, STAT
 
 DISPLAY, START, MARK = 0x03, 0x05, 0x3F     # opcodes of GP1

@@ -4,7 +4,7 @@ from array import array
 from typing import Dict, Iterator
 
 from psxgpu.console.orders import SAME, WORDED, Kind
-from psxgpu.packets.split import name_and_length
+from psxgpu.packets.grammar import name_and_length
 from psxgpu.stream import little
 
 SLOT = 0x4000               # bytes of a segment; four of them are the window

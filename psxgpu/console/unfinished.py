@@ -1,7 +1,8 @@
 """What the words of the ports have begun and not finished."""
 from array import array
 
-from psxgpu.packets.split import RESETS, STORE, Splitter, data_words
+from psxgpu.packets.grammar import RESETS, STORE, data_words
+from psxgpu.packets.split import Splitter
 
 
 class Unfinished:

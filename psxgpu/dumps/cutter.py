@@ -4,14 +4,13 @@ from __future__ import annotations
 from array import array
 
 from psxgpu.dumps.format import MOST_WORDS, PORT0
-from psxgpu.packets.split import LINE, LOAD, POLYLINE, SHADED, data_words, name_and_length
+from psxgpu.packets.grammar import LINE, LOAD, POLYLINE, SHADED, data_words, ends_polyline, name_and_length
 
 # By opcode: the words of the command, of a polyline those up to its second vertex.
 LENGTHS = [name_and_length(opcode << 24)[1] for opcode in range(256)]
 IS_LOAD = [name_and_length(opcode << 24)[0] == LOAD for opcode in range(256)]
 IS_POLYLINE = [name_and_length(opcode << 24)[0] == LINE and bool(opcode & POLYLINE) for opcode in range(256)]
 IS_LONG = [load or line for load, line in zip(IS_LOAD, IS_POLYLINE)]
-END_MASK, END_WORD = 0xF000F000, 0x50005000     # of the word that ends a polyline
 
 
 class Cutter:
@@ -29,7 +28,7 @@ class Cutter:
         step = 2 if opcode & SHADED else 1
         first = at + max(LENGTHS[opcode], self.seen)
         for index in range(first, len(words), step):
-            if words[index] & END_MASK == END_WORD:
+            if ends_polyline(words[index]):
                 self.seen = 0
                 return index + 1 - at
         left = max(0, len(words) - first)

@@ -9,7 +9,7 @@ from __future__ import annotations
 from typing import Dict, Iterator, List, Optional, Tuple
 
 from psxgpu.packets.parts import POLYGONS, line_parts, rectangle_parts
-from psxgpu.packets.split import COPY, ENVIRONMENT, FILL, LINE, LOAD, POLYGON, QUAD, RECTANGLE
+from psxgpu.packets.grammar import COPY, ENVIRONMENT, FILL, LINE, LOAD, POLYGON, QUAD, RECTANGLE
 from psxgpu.players.listed import Area, Walk
 from psxgpu.players.questions import Box, Questions
 from psxgpu.stream import GP0, GP1

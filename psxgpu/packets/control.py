@@ -1,7 +1,7 @@
 """What a control word says, and the names of note classes."""
 from typing import Callable, Dict
 
-from psxgpu.packets.split import FINISH, name_and_length
+from psxgpu.packets.grammar import FINISH, name_and_length
 
 WIDTHS = (256, 320, 512, 640)
 FINISHED, PIXELS = 8, 9

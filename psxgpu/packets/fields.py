@@ -3,8 +3,8 @@ from functools import lru_cache
 from typing import List, Sequence
 
 from psxgpu.packets.parts import POLYGONS, Registers, line_parts, rectangle_parts, signed
-from psxgpu.packets.split import (COPY, ENVIRONMENT, FILL, LINE, LOAD, POLYGON, POLYLINE, RAW, RECTANGLE, SEMI, SHADED,
-                                  STORE, TEXTURED, cells_of)
+from psxgpu.packets.grammar import (COPY, ENVIRONMENT, FILL, LINE, LOAD, POLYGON, POLYLINE, RAW, RECTANGLE, SEMI,
+                                    SHADED, STORE, TEXTURED, cells_of, fill_box)
 from psxgpu.packets.texts import CACHED, color_text, colors_text, pair, texcoord_text, texcoords_text, vertices_text
 
 BLENDS = ('B/2+F/2', 'B+F', 'B-F', 'B+F/4')
@@ -115,8 +115,8 @@ def transfer_text(name: str, words: Sequence[int], registers: Registers) -> List
 
 def fill_text(words: Sequence[int], _: Registers) -> List[str]:
     """Returns the fields of a fill."""
-    w, h = ((words[2] & 0x3FF) + 15) & ~15, words[2] >> 16 & 0x1FF
-    return ['corner %s, size %d by %d' % (pair((words[1] & 0x3F0, words[1] >> 16 & 0x3FF)), w, h),
+    x, y, w, h = fill_box(words)
+    return ['corner %s, size %d by %d' % (pair((x, y)), w, h),
             'colour ' + color_text(words[0])]
 
 

@@ -3,7 +3,7 @@ from typing import Callable, Dict, Iterable, List, NamedTuple, Sequence
 
 from psxgpu.packets.parts import (Point, Registers, line_parts, polygon_parts, rectangle_parts, signed, texcoord_of,
                                   vertex_of)
-from psxgpu.packets.split import COPY, FILL, LINE, POLYGON, RECTANGLE, SHADED, TEXTURED, cells_of
+from psxgpu.packets.grammar import COPY, FILL, LINE, POLYGON, RECTANGLE, SHADED, TEXTURED, cells_of
 
 
 class Packet(NamedTuple):

@@ -8,8 +8,8 @@ from psxgpu.command import ToolError, reading
 from psxgpu.packets.control import control
 from psxgpu.packets.fields import fields
 from psxgpu.packets.parts import Registers
-from psxgpu.packets.split import (COPY, ENVIRONMENT, FILL, FINISH, IRQ, LINE, LOAD, NOP, POLYGON, RECTANGLE, STORE,
-                                  Splitter)
+from psxgpu.packets.grammar import COPY, ENVIRONMENT, FILL, FINISH, IRQ, LINE, LOAD, NOP, POLYGON, RECTANGLE, STORE
+from psxgpu.packets.split import Splitter
 from psxgpu.packets.texts import Texts
 from psxgpu.players import player
 from psxgpu.players.flat import is_flat

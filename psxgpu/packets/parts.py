@@ -1,7 +1,7 @@
 """The numbers of a packet: its vertices, colours, texture coordinates, corner and size."""
 from typing import Dict, List, NamedTuple, Optional, Sequence, Tuple
 
-from psxgpu.packets.split import QUAD, SHADED, TEXTURED
+from psxgpu.packets.grammar import SHADED, TABLE, TEXTURED
 
 Point = Tuple[int, int]
 Registers = Dict[int, int]          # the values of E1h to E6h
@@ -33,12 +33,21 @@ class PolygonLayout(NamedTuple):
 def layout_of(opcode: int) -> PolygonLayout:
     """Returns the layout of the polygons of an opcode."""
     step = 1 + bool(opcode & SHADED) + bool(opcode & TEXTURED)
-    end = 1 + step * (4 if opcode & QUAD else 3)
-    return PolygonLayout(slice(1, end, step), slice(0, end - 1, step) if opcode & SHADED else slice(0, 1),
-                         slice(2, end + 1, step) if opcode & TEXTURED else slice(0, 0))
+    end = TABLE[opcode][1]
+    return PolygonLayout(slice(1, end, step), slice(0, end, step) if opcode & SHADED else slice(0, 1),
+                         slice(2, end, step) if opcode & TEXTURED else slice(0, 0))
 
 
 POLYGONS = {opcode: layout_of(opcode) for opcode in range(0x20, 0x40)}
+
+
+def polygon_words(opcode: int, vertices: Sequence[int], colors: Sequence[int], texcoords: Sequence[int]) -> List[int]:
+    """Returns the words of a polygon: its vertices, colours and texture coordinates, each as a word, in their places."""
+    words = [0] * TABLE[opcode][1]
+    for places, values in zip(POLYGONS[opcode], (vertices, colors, texcoords)):
+        words[places] = values
+    words[0] |= opcode << 24
+    return words
 
 
 def polygon_parts(words: Sequence[int]) -> Tuple[List[Point], List[int], List[int]]:

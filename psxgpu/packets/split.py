@@ -1,56 +1,17 @@
 """Cuts the words of GP0 into packets, as docs/CAPTURE.md has them, and keeps what E1h to E6h set."""
 from typing import Iterator, List, Optional, Sequence, Tuple
 
-FILL, POLYGON, LINE, RECTANGLE, COPY, LOAD, STORE, ENVIRONMENT, NOP, IRQ, FINISH = (
-    'fill', 'polygon', 'line', 'rectangle', 'copy', 'load', 'store', 'environment', 'nop', 'irq', 'finish')
-TRANSFERS = {4: (COPY, 4), 5: (LOAD, 3), 6: (STORE, 3)}
-SHADED, POLYLINE, QUAD, TEXTURED, SEMI, RAW = 0x10, 0x08, 0x08, 0x04, 0x02, 0x01
-RESETS = (0, 1)         # opcodes of GP1 that end what is unfinished
+from psxgpu.packets.grammar import (ENVIRONMENT, FINISH, LINE, LOAD, POLYGON, POLYLINE, RESETS, SHADED, TABLE, TEXTURED,
+                                    data_words, ends_polyline)
+
 # The bits that E1h to E6h keep, in video memory of 512 and of 1024 rows.
 KEPT = {False: (0x37FF, 0xFFFFF, 0x7FFFF, 0x7FFFF, 0x3FFFFF, 3),
         True: (0x3FFF, 0xFFFFF, 0xFFFFF, 0xFFFFF, 0x3FFFFF, 3)}
 Packet = Tuple[str, List[int]]          # name, words
 PAGE = {False: 0x1FF, True: 0x9FF}      # the bits of E1h that a textured polygon sets
-
-
-def entry(opcode: int) -> Tuple[str, int]:
-    """Returns the name and the length of the packets of an opcode."""
-    kind = opcode >> 5
-    if kind == 0:
-        return {0x02: (FILL, 3), 0x1F: (IRQ, 1)}.get(opcode, (NOP, 1))
-    if kind == 1:
-        points, extra = (4 if opcode & QUAD else 3), 1 + bool(opcode & TEXTURED) + bool(opcode & SHADED)
-        return POLYGON, points * extra + (not opcode & SHADED)
-    if kind == 2:
-        return LINE, 4 if opcode & SHADED else 3
-    if kind == 3:
-        return RECTANGLE, 2 + bool(opcode & TEXTURED) + (opcode & 0x18 == 0)
-    if kind == 7:
-        return (ENVIRONMENT if 0xE1 <= opcode <= 0xE6 else NOP), 1
-    return TRANSFERS[kind]
-
-
-TABLE = tuple(map(entry, range(256)))
 CHANGING = (POLYGON, ENVIRONMENT, LOAD, LINE)       # packets that change what follows
 OPENING = (LOAD, LINE)          # packets after which words may belong to them
 PIECE = 512                     # words that are split at once: no packet has so many
-
-
-def name_and_length(word: int) -> Tuple[str, int]:
-    """Returns the name of the packet that a word begins, as `list` has it, and the number of its words; of a polyline
-    those up to its second vertex."""
-    return TABLE[word >> 24]
-
-
-def cells_of(size: int) -> Tuple[int, int]:
-    """Returns width and height of a copy, load or store in cells: a size of 0 is the greatest."""
-    return (((size & 0xFFFF) - 1 & 0x3FF) + 1, ((size >> 16) - 1 & 0x1FF) + 1)
-
-
-def data_words(size: int) -> int:
-    """Returns the number of data words of a transfer of this size."""
-    w, h = cells_of(size)
-    return (w * h + 1) // 2
 
 
 class Splitter:
@@ -141,7 +102,7 @@ class Splitter:
     def joint(self, word: int, last: Sequence[int]) -> Optional[Packet]:
         """Takes a word after the vertex `last` of a polyline. Returns the packet that it completes, if any."""
         is_shaded = self.command >> 24 & SHADED
-        if not self.words and word & 0xF000F000 == 0x50005000:
+        if not self.words and ends_polyline(word):
             self.last = None
             return FINISH, [word]
         self.words.append(word)

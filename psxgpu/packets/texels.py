@@ -4,7 +4,7 @@ from __future__ import annotations
 from typing import Dict, List, Sequence, Tuple
 
 from psxgpu.packets.parts import polygon_parts, rectangle_parts, texcoord_of
-from psxgpu.packets.split import POLYGON, RECTANGLE, TEXTURED
+from psxgpu.packets.grammar import POLYGON, RECTANGLE, TEXTURED
 
 Box = Tuple[int, int, int, int]             # x, y, width, height in cells
 Registers = Dict[int, int]                  # the values of E1h to E6h

@@ -6,7 +6,8 @@ from typing import Callable, Iterator, List, Optional, Sequence, Tuple
 from psxgpu.command import reading
 from psxgpu.packets.control import control
 from psxgpu.packets.fields import fields
-from psxgpu.packets.split import LOAD, Splitter
+from psxgpu.packets.grammar import LOAD
+from psxgpu.packets.split import Splitter
 from psxgpu.players import player
 from psxgpu.players.heal import Healer
 from psxgpu.players.steps import Cutter, Steps

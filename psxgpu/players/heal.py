@@ -6,7 +6,8 @@ from typing import IO, Dict, Iterable, Iterator, List, Optional, Sequence, Tuple
 
 from psxgpu.command import ToolError
 from psxgpu.packets.known import is_known
-from psxgpu.packets.split import LINE, POLYGON, TEXTURED, Splitter, data_words
+from psxgpu.packets.grammar import LINE, POLYGON, TEXTURED, data_words
+from psxgpu.packets.split import Splitter
 from psxgpu.players import player
 from psxgpu.players.steps import Cutter, Step
 from psxgpu.stream import GP0, HEADS, READ, STAT, Stream, encode

@@ -4,6 +4,7 @@ import io
 from typing import Dict, Iterator, List, NamedTuple, Optional, Sequence, Tuple
 
 from psxgpu.command import ToolError
+from psxgpu.packets.grammar import words_of_cells
 from psxgpu.stream import GP0, GP1, READ, SKIP, STAT, Stream
 
 HEAD, END = b'PSXGPUC1', bytes(4)
@@ -105,11 +106,11 @@ def targets(stream: Events, listing: bytes) -> Dict[int, Target]:
     for event, name, word, box, mask in packets(listing):
         if name == 'store' and box:
             cells = (box[2] - box[0] + 1) * (box[3] - box[1] + 1)
-            busy = stream.after(event, READ, (cells + 1) // 2) or event
+            busy = stream.after(event, READ, words_of_cells(cells)) or event
         if box is None or name in ('store', 'irq', 'nop', 'environment') or event < busy:
             continue
         cells = (box[2] - box[0] + 1) * (box[3] - box[1] + 1)
-        last = stream.after(event, GP0, (cells + 1) // 2) if name == 'load' else event
+        last = stream.after(event, GP0, words_of_cells(cells)) if name == 'load' else event
         if last:
             out[last] = Target(event, name, word, seen_box(name, box), cells, mask)
     return out

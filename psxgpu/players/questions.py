@@ -8,7 +8,7 @@ from typing import Iterator, List, Sequence, Tuple
 
 from psxgpu import progress
 from psxgpu.machine import Machine, Missing, Record, library
-from psxgpu.packets.split import data_words
+from psxgpu.packets.grammar import data_words
 from psxgpu.players import player
 from psxgpu.stream import GP0, HEADS, MOST_READS, READ, SKIP, STAT, Stream, encode
 from psxgpu.words import corner

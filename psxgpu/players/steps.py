@@ -10,7 +10,8 @@ from typing import IO, Iterable, Iterator, List, Optional, Sequence, Tuple
 
 from psxgpu.command import pour
 from psxgpu.packets.parts import Registers
-from psxgpu.packets.split import FINISH, LINE, POLYLINE, Splitter
+from psxgpu.packets.grammar import FINISH, LINE, POLYLINE
+from psxgpu.packets.split import Splitter
 from psxgpu.players import player
 from psxgpu.stream import GP0, GP1, HEADS, READ, SKIP, Record, Stream, encode
 

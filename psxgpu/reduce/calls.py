@@ -5,7 +5,7 @@ from typing import Callable, Dict, List, Sequence, Tuple
 
 from psxgpu import capture
 from psxgpu.packets.parts import line_parts, polygon_parts, rectangle_parts, signed, texcoord_of
-from psxgpu.packets.split import (COPY, ENVIRONMENT, FILL, LINE, LOAD, POLYGON, RAW, RECTANGLE, SEMI, SHADED, STORE)
+from psxgpu.packets.grammar import COPY, ENVIRONMENT, FILL, LINE, LOAD, POLYGON, RAW, RECTANGLE, SEMI, SHADED, STORE
 from psxgpu.packets.texels import page_corner, palette_corner
 from psxgpu.reduce.loads import load_parts
 from psxgpu.reduce.units import Unit

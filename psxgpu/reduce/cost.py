@@ -3,8 +3,8 @@ from __future__ import annotations
 
 from typing import Iterator, Sequence, Tuple
 
-from psxgpu.packets.split import COPY, ENVIRONMENT, LINE, LOAD, POLYGON, POLYLINE, RAW, RECTANGLE, SEMI, SHADED
-from psxgpu.packets.split import STORE, TEXTURED
+from psxgpu.packets.grammar import (COPY, ENVIRONMENT, LINE, LOAD, POLYGON, POLYLINE, RAW, RECTANGLE, SEMI, SHADED,
+                                    STORE, TEXTURED)
 from psxgpu.reduce.layout import WHOLE_AREA, fields_of, goal_of, value_of
 from psxgpu.reduce.units import Unit
 

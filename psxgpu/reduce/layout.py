@@ -3,9 +3,9 @@ from __future__ import annotations
 
 from typing import Iterator, List, Tuple
 
-from psxgpu.packets.parts import signed
-from psxgpu.packets.split import (COPY, ENVIRONMENT, FILL, LINE, LOAD, POLYGON, POLYLINE, QUAD, RAW, RECTANGLE,
-                                  SHADED, STORE, TEXTURED)
+from psxgpu.packets.grammar import (COPY, ENVIRONMENT, FILL, LINE, LOAD, POLYGON, POLYLINE, RAW, RECTANGLE, SHADED,
+                                    SIZE_CODE, STORE, TEXTURED)
+from psxgpu.packets.parts import POLYGONS, signed
 from psxgpu.reduce.units import Unit
 
 Place = Tuple[int, int, int]        # word, shift, width; a negative width is that of a signed number
@@ -24,9 +24,9 @@ WHOLE_AREA = {False: 0xE407FFFF, True: 0xE40FFFFF}      # E4h for all of video m
 
 def polygon_layout(unit: Unit) -> List[str]:
     """Returns what each word of a polygon is."""
-    opcode, kinds = unit.opcode, []     # type: int, List[str]
-    for k in range(4 if opcode & QUAD else 3):
-        kinds += ['color'] * (k == 0 or bool(opcode & SHADED)) + ['vertex'] + ['texcoord'] * bool(opcode & TEXTURED)
+    kinds = ['color'] * len(unit.words)
+    for kind, places in zip(('vertex', 'color', 'texcoord'), POLYGONS[unit.opcode]):
+        kinds[places] = [kind] * len(kinds[places])
     return kinds
 
 
@@ -36,7 +36,7 @@ def layout(unit: Unit) -> List[str]:
     if unit.name == POLYGON:
         return polygon_layout(unit)
     if unit.name == RECTANGLE:
-        return ['color', 'vertex'] + ['texcoord'] * bool(opcode & TEXTURED) + ['size'] * (opcode & 0x18 == 0)
+        return ['color', 'vertex'] + ['texcoord'] * bool(opcode & TEXTURED) + ['size'] * (opcode & SIZE_CODE == 0)
     if unit.name == LINE:
         if opcode & POLYLINE:
             return ['color'] + ['other'] * (len(unit.words) - 1)

@@ -5,7 +5,7 @@ from array import array
 from collections import Counter
 from typing import Iterator, List, Tuple
 
-from psxgpu.packets.split import cells_of
+from psxgpu.packets.grammar import cells_of
 from psxgpu.reduce.units import Unit, load_unit
 
 MOST_CELLS = 1 << 12        # a load of more cells is not simplified cell by cell

@@ -4,7 +4,7 @@ from __future__ import annotations
 from typing import List, Sequence, Tuple
 
 from psxgpu.packets.parts import line_parts, polygon_parts, rectangle_parts, signed
-from psxgpu.packets.split import COPY, FILL, LINE, LOAD, POLYGON, RECTANGLE, SEMI, STORE, cells_of
+from psxgpu.packets.grammar import COPY, FILL, LINE, LOAD, POLYGON, RECTANGLE, SEMI, STORE, cells_of, fill_box
 from psxgpu.packets.texels import Box, Registers, texture_of
 
 KEEP = 2        # the bit of E6h that keeps cells whose bit 15 is 1
@@ -43,7 +43,7 @@ def target_of(name: str, words: Sequence[int], registers: Registers) -> List[Box
         (x, y), (w, h), _ = rectangle_parts(words)
         return hull([(x, y), (x + w - 1, y + h - 1)], registers) if w and h else []
     if name == FILL:
-        return [(words[1] & 0x3F0, words[1] >> 16 & 0x3FF, ((words[2] & 0x3FF) + 15) & ~15, words[2] >> 16 & 0x1FF)]
+        return [fill_box(words)]
     if name in (COPY, LOAD):
         return [transfer_box(words[2 if name == COPY else 1], words[3 if name == COPY else 2])]
     return []

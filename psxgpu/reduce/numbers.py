@@ -3,7 +3,7 @@ from __future__ import annotations
 
 from typing import Iterator, List
 
-from psxgpu.packets.split import COPY, LOAD, POLYGON, STORE
+from psxgpu.packets.grammar import COPY, LOAD, POLYGON, STORE
 from psxgpu.reduce.layout import USED, fields_of, goal_of, layout, value_of, with_value
 from psxgpu.reduce.units import Unit
 

@@ -3,31 +3,24 @@ from __future__ import annotations
 
 from typing import Iterator, List, Sequence, Tuple
 
-from psxgpu.packets.parts import polygon_parts
-from psxgpu.packets.split import (ENVIRONMENT, LINE, LOAD, POLYGON, POLYLINE, QUAD, RAW, RECTANGLE, SEMI, SHADED,
-                                  TEXTURED, data_words)
+from psxgpu.packets.grammar import (ENVIRONMENT, LINE, LOAD, POLYGON, POLYLINE, QUAD, RAW, RECTANGLE, SEMI, SHADED,
+                                    SIZE_CODE, TEXTURED, data_words, ends_polyline)
+from psxgpu.packets.parts import polygon_parts, polygon_words
 from psxgpu.reduce.layout import GRAY, WHOLE_AREA
 from psxgpu.reduce.units import Unit
-from psxgpu.words import corner
+from psxgpu.words import vertex
 
 Points = Sequence[Tuple[int, int]]
-SIZE_CODE = 0x18            # bits of a rectangle's opcode
 SMALLER_CODES = {0x18: (0x08, 0x10), 0x10: (0x08,)}     # 16 by 16 and 8 by 8: one cell and what is between
 ONE_CELL = 0x00010001
-END_MASK, END = 0xF000F000, 0x50005000                  # the end word of a polyline
 
 
 def polygon(opcode: int, points: Points, colors: Sequence[int], coords: Sequence[int]) -> Unit:
     """Returns the polygon of these parts; `opcode` has its properties."""
     opcode = 0x20 | opcode & (SHADED | TEXTURED | SEMI | RAW) | (QUAD if len(points) == 4 else 0)
-    words = []
-    for k, point in enumerate(points):
-        if k == 0 or opcode & SHADED:
-            words.append(colors[k if opcode & SHADED else 0] & 0xFFFFFF | (opcode << 24 if k == 0 else 0))
-        words.append(corner(point[0] & 0x7FF, point[1] & 0x7FF))
-        if opcode & TEXTURED:
-            words.append(coords[k])
-    return Unit(POLYGON, tuple(words))
+    shades = [color & 0xFFFFFF for color in (colors if opcode & SHADED else colors[:1])]
+    return Unit(POLYGON, tuple(polygon_words(opcode, [vertex(*point) for point in points], shades,
+                                             coords if opcode & TEXTURED else ())))
 
 
 def attributed(coords: Sequence[int], places: Sequence[int]) -> List[int]:
@@ -68,7 +61,7 @@ def segments(unit: Unit) -> Iterator[Unit]:
     """Yields the segments of a polyline."""
     words, shaded = unit.words, unit.opcode & SHADED
     step = 2 if shaded else 1
-    ended = words[:-1] if words[-1] & END_MASK == END else words
+    ended = words[:-1] if ends_polyline(words[-1]) else words
     vertices = ended[1::step]
     colors = ended[0::2] if shaded else [words[0]] * len(vertices)
     head = (unit.opcode & ~POLYLINE) << 24

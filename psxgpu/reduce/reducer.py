@@ -4,7 +4,8 @@ from __future__ import annotations
 from typing import Callable, Iterable, List, Optional, Set, Tuple
 
 from psxgpu.packets.known import CLASSES, is_known
-from psxgpu.packets.split import ENVIRONMENT, LOAD, Splitter
+from psxgpu.packets.grammar import ENVIRONMENT, LOAD
+from psxgpu.packets.split import Splitter
 from psxgpu.players.named import dump_of
 from psxgpu.reduce.cost import is_simpler
 from psxgpu.reduce.needs import DRAWN, sources_of

@@ -4,8 +4,8 @@ from __future__ import annotations
 from typing import Iterator, List, Tuple
 
 from psxgpu.packets.parts import signed, texcoord_of
-from psxgpu.packets.split import (COPY, ENVIRONMENT, LINE, LOAD, POLYGON, RECTANGLE, STORE, TEXTURED, cells_of,
-                                  data_words)
+from psxgpu.packets.grammar import (COPY, ENVIRONMENT, LINE, LOAD, POLYGON, RECTANGLE, STORE, TEXTURED, cells_of,
+                                    data_words)
 from psxgpu.packets.texels import SHIFTS, Box, texture_of
 from psxgpu.reduce.layout import places_of
 from psxgpu.reduce.loads import cut_load, load_parts, moved_load

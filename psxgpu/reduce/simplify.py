@@ -3,7 +3,7 @@ from __future__ import annotations
 
 from typing import Callable, Iterable, Iterator, List, Protocol
 
-from psxgpu.packets.split import LOAD
+from psxgpu.packets.grammar import LOAD
 from psxgpu.reduce.loads import halves, plainer_cells, smaller_boxes
 from psxgpu.reduce.numbers import cleaned, fewer_reads, smaller_numbers
 from psxgpu.reduce.plainer import plainer

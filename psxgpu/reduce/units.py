@@ -9,7 +9,8 @@ from array import array
 from dataclasses import dataclass
 from typing import Dict, Iterable, Iterator, List, Optional, Sequence, Tuple
 
-from psxgpu.packets.split import LOAD, Splitter, data_words
+from psxgpu.packets.grammar import LOAD, data_words
+from psxgpu.packets.split import Splitter
 from psxgpu.players.steps import Cutter, Step
 from psxgpu.stream import GP0, GP1, HEADS, encode
 from psxgpu.stream import Record as StreamRecord

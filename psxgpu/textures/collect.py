@@ -4,7 +4,7 @@ from __future__ import annotations
 from array import array
 from typing import Dict, Iterator, List, NamedTuple, Optional, Sequence, Tuple
 
-from psxgpu.packets.split import POLYGON, RECTANGLE, SHADED, STORE, TEXTURED
+from psxgpu.packets.grammar import POLYGON, RECTANGLE, SHADED, STORE, TEXTURED
 from psxgpu.players.listed import Area, Packet, Walk
 from psxgpu.players.questions import Questions
 from psxgpu.stream import GP0

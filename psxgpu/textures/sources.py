@@ -4,7 +4,7 @@ from __future__ import annotations
 from typing import Dict, List, NamedTuple, Optional, Sequence, Tuple
 
 from psxgpu.packets.parts import polygon_parts, rectangle_parts, texcoord_of
-from psxgpu.packets.split import POLYGON
+from psxgpu.packets.grammar import POLYGON
 from psxgpu.packets.texels import WINDOW, is_textured, page_corner, palette_corner, rectangle_span
 
 Box = Tuple[int, int, int, int]     # x, y, width, height

@@ -2,7 +2,6 @@
 import os
 import re
 import struct
-import unittest
 from unittest import mock
 
 from packages import common, wheels, zips

@@ -2,7 +2,6 @@
 
 Each run of systems/players/wasi (psxgpu_tool.wasm by node) is compared with the same run of this machine's program."""
 import os
-import unittest
 
 from tests.systems import same_runs
 

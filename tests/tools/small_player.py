@@ -7,7 +7,8 @@ from array import array
 from typing import Dict, List, Optional, Sequence, Tuple
 
 from psxgpu.packets.parts import rectangle_parts, signed, texcoord_of
-from psxgpu.packets.split import RAW, SEMI, TEXTURED, Splitter, cells_of
+from psxgpu.packets.grammar import RAW, SEMI, TEXTURED, cells_of
+from psxgpu.packets.split import Splitter
 from psxgpu.packets.texels import page_corner, palette_corner
 from psxgpu.players.named import Done, Player
 from psxgpu.stream import GP0, GP1, READ, STAT, Stream

@@ -1,6 +1,5 @@
 """Two players on random captures."""
 import os
-import unittest
 
 from tests import support
 from psxgpu.packets.generated import CLASSES

@@ -1,6 +1,5 @@
 """The first packet after which two players differ. Two small players that draw fills stand below."""
 import sys
-import unittest
 
 from tests import support
 from psxgpu import capture as c

@@ -1,5 +1,4 @@
 """Reports on captures."""
-import unittest
 
 from tests import support
 from psxgpu import capture as c

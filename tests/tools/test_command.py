@@ -4,7 +4,6 @@ import os
 import pty
 import subprocess
 import sys
-import unittest
 
 from tests import support
 from psxgpu import __version__

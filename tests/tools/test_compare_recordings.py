@@ -2,7 +2,6 @@
 import gzip
 import os
 import sys
-import unittest
 
 from tests import support
 from psxgpu import capture as c

@@ -2,7 +2,6 @@
 import contextlib
 import io
 import json
-import unittest
 import xml.etree.ElementTree
 from unittest import mock
 

@@ -1,6 +1,5 @@
 """Tests of the orders that a test program for the console follows: they do to the GPU what the capture does."""
 import random
-import unittest
 from array import array
 
 from psxgpu import console

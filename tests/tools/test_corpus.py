@@ -1,6 +1,5 @@
 """Folders of captures, recorded and checked."""
 import os
-import unittest
 from xml.etree import ElementTree
 
 from tests import support

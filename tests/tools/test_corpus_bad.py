@@ -5,7 +5,6 @@ import signal
 import subprocess
 import sys
 import time
-import unittest
 
 from tests.tools.corpus_support import Corpus
 

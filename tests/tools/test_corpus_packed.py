@@ -2,7 +2,6 @@
 import gzip
 import lzma
 import os
-import unittest
 
 from tests.tools.corpus_support import Corpus, film
 from tests.tools.dumps_support import HAND_MADE

@@ -4,7 +4,6 @@ import io
 import lzma
 import os
 import pathlib
-import unittest
 from unittest import mock
 
 from tests import support

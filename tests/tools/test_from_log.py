@@ -1,6 +1,5 @@
 """Captures made from text logs."""
 import io
-import unittest
 
 from tests import support
 from psxgpu import capture as c

@@ -4,7 +4,6 @@ import io
 import lzma
 import os
 import struct
-import unittest
 
 from tests import support
 from psxgpu import capture as c

@@ -2,7 +2,6 @@
 from __future__ import annotations
 
 import io
-import unittest
 from typing import List, Optional, Tuple
 
 from tests import support

@@ -2,7 +2,6 @@
 import contextlib
 import os
 import random
-import unittest
 
 from psxgpu import console
 from psxgpu.capture import Capture, fill, load, store

@@ -1,7 +1,6 @@
 """No tool ends in a traceback: one line with the file and the reason, and status 2."""
 import subprocess
 import sys
-import unittest
 
 from tests import support
 from psxgpu import capture as c

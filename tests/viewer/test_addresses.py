@@ -1,6 +1,5 @@
 """Addresses of places, event.item, and the links with them: python3 -m tests.viewer.test_addresses, after `make web`."""
 import base64
-import unittest
 
 from tests.viewer.page import examples, program
 from tests.viewer.reader import Reader

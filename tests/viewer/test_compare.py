@@ -1,12 +1,11 @@
 """Comparing with a dump, and with a second recording side by side: python3 -m tests.viewer.test_compare, after `make web`."""
 import os
-import unittest
 
 from tests.viewer.page import program
 from tests.viewer.reader import Reader
 from tests.viewer.recordings import two_buffers
 
-from psxgpu.capture import Capture, fill, rectangle, screen
+from psxgpu.capture import Capture, fill, screen
 
 
 class Compare(Reader):

@@ -1,7 +1,6 @@
 """Menus, keys, wrong input, and what the page says: python3 -m tests.viewer.test_controls, after `make web`."""
 import base64
 import lzma
-import unittest
 
 from tests.viewer.page import program
 from tests.viewer.made import in_zstd

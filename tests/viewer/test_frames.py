@@ -2,7 +2,6 @@
 `make web`."""
 import os
 import time
-import unittest
 
 from tests.viewer.reader import Reader
 from tests.viewer.recordings import covered, palette_page, two_buffers

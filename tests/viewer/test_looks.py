@@ -1,5 +1,4 @@
 """Contrast, bars that stay where they are, what is kept, and fingers: python3 -m tests.viewer.test_looks, after `make web`."""
-import unittest
 
 from tests.viewer.reader import Reader
 from tests.viewer.recordings import two_buffers

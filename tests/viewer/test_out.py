@@ -6,7 +6,6 @@ import os
 import subprocess
 import sys
 import time
-import unittest
 
 from tests.viewer.page import ROOT, program
 from tests.viewer.reader import Reader, holding

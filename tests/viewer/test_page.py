@@ -2,7 +2,6 @@
 
     python3 -m tests.viewer.test_page
 """
-import unittest
 
 from tests.viewer.page import program
 from tests.viewer.reader import Reader, holding

@@ -1,7 +1,5 @@
 """Stepping through packets, and where a recording opens: python3 -m tests.viewer.test_stepping, after `make web`."""
-import unittest
 
-from tests.viewer.page import program
 from tests.viewer.reader import Reader
 from tests.viewer.recordings import BUSY, two_buffers, unpacked
 

@@ -9,7 +9,7 @@ import { hex, nameOf } from '../reading/names.js';
 import { lastUpTo } from '../numbers.js';
 import { openFile } from '../reading/opening.js';
 import { Refusal } from '../reading/refusal.js';
-import { KIND } from './rows.js';
+import { KIND } from '../reading/rows.js';
 import { SecondPanel } from './second_panel.js';
 import { shownBy } from '../views/pixels.js';
 

@@ -1,7 +1,7 @@
 // The list of rows at the left, with search and filter.
 
 import { longestAddress, rowAddress } from '../playing/address.js';
-import { KIND } from './rows.js';
+import { KIND } from '../reading/rows.js';
 import { List } from './list.js';
 import { element, grouped, made, swatch } from './dom.js';
 import { lastUpTo } from '../numbers.js';

@@ -1,7 +1,7 @@
 // What the packet at this place says: its fields, its vertices, its words.
 
 import { rowAddress } from '../playing/address.js';
-import { KIND } from './rows.js';
+import { KIND } from '../reading/rows.js';
 import { element, grouped, made, swatch, tableOf } from './dom.js';
 import { cssOf, offsetOf } from '../reading/fields.js';
 import { hex, nameOf } from '../reading/names.js';

@@ -1,6 +1,6 @@
 // Finds rows: by name and kind ("polygon textured"), by a word in eight hexadecimal digits, by a cell ("@ 120,40").
 
-import { KIND } from './rows.js';
+import { KIND } from '../reading/rows.js';
 import { nameOf } from '../reading/names.js';
 import { rowsAt } from '../playing/candidates.js';
 import { tagsOf } from '../reading/words.js';

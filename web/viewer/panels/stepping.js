@@ -1,6 +1,6 @@
 // Which rows the arrow keys go to: the packets that draw, or the rows that the list shows; every row with Shift.
 
-import { KIND } from './rows.js';
+import { KIND } from '../reading/rows.js';
 import { lastUpTo } from '../numbers.js';
 
 /**

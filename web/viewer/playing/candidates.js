@@ -1,6 +1,6 @@
 // The steps that may change a cell: those of the packets, segments and data words whose area holds it.
 
-import { KIND } from '../panels/rows.js';
+import { KIND } from '../reading/rows.js';
 import { STEP } from '../reading/track.js';
 
 // Whether an area with corners that are not wrapped holds a cell.

@@ -7,8 +7,8 @@
 
 import { Dirty } from './dirty.js';
 import { packetOf } from '../reading/packet.js';
-import { KIND } from '../panels/rows.js';
-import { lengthOf } from '../reading/splitter.js';
+import { KIND } from '../reading/rows.js';
+import { lengthOf } from '../reading/grammar.js';
 
 const DRAWS = [KIND.POLYGON, KIND.LINE, KIND.JOINT, KIND.RECTANGLE];
 const COLUMNS = { 4: 64, 8: 128, 15: 256 };

@@ -2,7 +2,7 @@
 // step of red (B + F) to the cells that it covers. Texels that are not drawn count as drawn.
 
 import { PLACING, settingsBefore } from './settings.js';
-import { KIND } from '../panels/rows.js';
+import { KIND } from '../reading/rows.js';
 import { shapesOf } from '../views/shapes.js';
 import { isDrawing } from '../panels/stepping.js';
 import { Machine } from './machine.js';

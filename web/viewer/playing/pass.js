@@ -1,7 +1,7 @@
 // Plays a recording once from its start, slice by slice: keeps the state before a slice, and plays it with the machine's
 // notes, which give the areas of its packets. It can be stopped and gone on with.
 
-import { KIND, NO_AREA } from '../panels/rows.js';
+import { KIND, NO_AREA } from '../reading/rows.js';
 import { playOther, toStart } from './player.js';
 
 // Milliseconds that a slice is to be played in, and how many steps it has at least and at most.

@@ -1,6 +1,6 @@
 // The drawing settings that hold before a row, read off the list without playing.
 
-import { KIND } from '../panels/rows.js';
+import { KIND } from '../reading/rows.js';
 
 /** The words of E3h, E4h and E5h: drawing area and offset. */
 export const PLACING = [0xE3, 0xE4, 0xE5];

@@ -1,6 +1,6 @@
 // What rows are called: the names of `psxgpu_tool list`, and those of the words for GP1.
 
-import { KIND } from '../panels/rows.js';
+import { KIND } from './rows.js';
 
 export const hex = (word, digits = 8) => (word >>> 0).toString(16).padStart(digits, '0');
 

@@ -1,8 +1,8 @@
 // A packet's words taken apart: vertices with their colours and texture coordinates, page, palette, rectangles.
 
-import { KIND } from '../panels/rows.js';
 import { colorOf, cornerOf, pageOf, paletteOf, texcoordOf, vertexOf } from './fields.js';
-import { sizeOf } from './splitter.js';
+import { fillBox, sizeOf } from './grammar.js';
+import { KIND } from './rows.js';
 
 const FIXED = [0, 1, 8, 16];
 
@@ -12,7 +12,7 @@ export function packetOf(kind, head, words, { registers, height }) {
     const flags = { semi: (opcode & 2) !== 0, shaded: (opcode & 16) !== 0, textured: (opcode & 4) !== 0,
         raw: (opcode & 5) === 5 };
     switch (kind) {
-    case KIND.OTHER: return opcode === 2 ? fillOf(words, height) : {};
+    case KIND.OTHER: return opcode === 2 ? { color: colorOf(words[0]), ...fillBox(words, height) } : {};
     case KIND.POLYGON: return { ...flags, ...polygonOf(words, flags, opcode, height) };
     case KIND.LINE: return { semi: flags.semi, shaded: flags.shaded, ...lineOf(words, flags.shaded) };
     case KIND.JOINT: return { semi: flags.semi, shaded: flags.shaded, ...jointOf(words, flags.shaded) };
@@ -22,14 +22,6 @@ export function packetOf(kind, head, words, { registers, height }) {
     case KIND.STORE: return { from: cornerOf(words[1], height), size: sizeOf(words[2]) };
     default: return {};
     }
-}
-
-function fillOf(words, height) {
-    return {
-        color: colorOf(words[0]),
-        to: { x: words[1] & 0x3F0, y: (words[1] >>> 16) & (height - 1) },
-        size: { w: ((words[2] & 0x3FF) + 15) & ~15, h: (words[2] >>> 16) & 0x1FF },
-    };
 }
 
 function polygonOf(words, { shaded, textured }, opcode, height) {

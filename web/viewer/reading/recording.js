@@ -1,9 +1,10 @@
 // A recording that is open: its steps and rows, and the states that are kept of it.
 
 import { Keyframes } from '../playing/keyframes.js';
-import { Rows } from '../panels/rows.js';
+import { dataWords } from './grammar.js';
+import { KIND, Rows } from './rows.js';
 import { Splitter } from './splitter.js';
-import { Track } from './track.js';
+import { STEP, Track } from './track.js';
 
 export class Recording {
     // `head`: its first eight bytes as text; `start`: the bytes of the state that a snapshot begins with, or null, and
@@ -33,26 +34,25 @@ export class Recording {
     // After how many steps a row has done all that it does: of a load, when its data are there.
     endOf(row) {
         const end = this.rows.done[row] + 1;
-        return this.rows.kind[row] === 5 ? this.dataEnd(row, end) : end;
+        return this.rows.kind[row] === KIND.LOAD ? this.dataEnd(row, end) : end;
     }
 
     // The words of a row; of a load, its data, too.
     wordsOf(row) {
         const out = this.rows.words(row, this.track);
         for (let step = this.rows.done[row] + 1; step < this.endOf(row); step++) {
-            if (this.track.kind(step) === 0) out.push(this.track.word(step));
+            if (this.track.kind(step) === STEP.GP0) out.push(this.track.word(step));
         }
         return out;
     }
 
     dataEnd(row, end) {
-        const { track } = this, size = track.word(end - 1);
-        const w = ((size - 1) & 0x3FF) + 1, h = (((size >>> 16) - 1) & 0x1FF) + 1;
-        let left = (w * h + 1) >> 1, at = end;
+        const { track } = this;
+        let left = dataWords(track.word(end - 1)), at = end;
         for (; left > 0 && at < track.length; at++) {
             const kind = track.kind(at);
-            if (kind === 0) left--;
-            else if (kind === 1 && (track.word(at) & 0x3E000000) === 0) return end;
+            if (kind === STEP.GP0) left--;
+            else if (kind === STEP.GP1 && (track.word(at) & 0x3E000000) === 0) return end;
         }
         return at;
     }

@@ -1,35 +1,10 @@
-// Cuts the steps of a recording into rows: the words of GP0 into packets, as docs/CAPTURE.md has their lengths.
+// Cuts the steps of a recording into rows: the words of GP0 into packets.
 
-import { KIND } from '../panels/rows.js';
+import { dataWords, isPolylineEnd, lengthOf, wordsOfCells } from './grammar.js';
+import { KIND } from './rows.js';
 import { PIECE, STEP } from './track.js';
 
 const MASK = PIECE - 1;
-
-// How many words a packet has, by its opcode; of a load and a polyline, those before its data and its joints.
-const LENGTHS = Uint8Array.from({ length: 256 }, (_, opcode) => {
-    const shaded = opcode >> 4 & 1, textured = opcode >> 2 & 1, quad = opcode >> 3 & 1;
-    switch (opcode >> 5) {
-    case 0: return opcode === 2 ? 3 : 1;
-    case 1: return 1 + (3 + quad) * (1 + textured) + shaded * (2 + quad);
-    case 2: return 3 + shaded;
-    case 3: return 2 + textured + ((opcode >> 3 & 3) === 0 ? 1 : 0);
-    case 4: return 4;
-    case 5: case 6: return 3;
-    default: return 1;
-    }
-});
-
-/** Returns how many words a packet has by its first word. */
-export const lengthOf = head => LENGTHS[head >>> 24];
-
-export const isEndWord = word => (word & 0xF000F000) === 0x50005000;
-
-/** The cells of a load or store by its word of size, and how many words hold them. */
-export const sizeOf = word => ({ w: ((word - 1) & 0x3FF) + 1, h: (((word >>> 16) - 1) & 0x1FF) + 1 });
-export function dataWords(word) {
-    const { w, h } = sizeOf(word);
-    return (w * h + 1) >> 1;
-}
 
 export class Splitter {
     constructor(track, rows) {
@@ -49,9 +24,9 @@ export class Splitter {
         this.rows.earlier.row = 0;
         const words = pending.words ?? [];
         if (pending.kind === 'packet') {
-            this.begin(words[0] >>> 29, 0, words[0], LENGTHS[words[0] >>> 24] - words.length);
+            this.begin(words[0] >>> 29, 0, words[0], lengthOf(words[0]) - words.length);
         } else if (pending.kind === 'load') {
-            this.data = (pending.w * pending.h - pending.next + 1) >> 1;
+            this.data = wordsOfCells(pending.w * pending.h - pending.next);
         } else if (pending.kind === 'polyline') {
             this.polyline = pending.command;
             if (words.length > 0) this.begin(KIND.JOINT, 0, pending.command, 1);
@@ -83,8 +58,8 @@ export class Splitter {
                 this.kind = word >>> 29;
                 this.first = step;
                 this.head = word;
-                this.need = LENGTHS[word >>> 24];
-            } else if (isEndWord(word)) {
+                this.need = lengthOf(word);
+            } else if (isPolylineEnd(word)) {
                 this.rows.add(KIND.FINISH, step, step, word);
                 this.polyline = 0;
                 return;

@@ -1,6 +1,6 @@
 // A row in words: what it is in short, and all its fields.
 
-import { KIND } from '../panels/rows.js';
+import { KIND } from './rows.js';
 import { BLENDS, colorOf, cssOf, offsetOf, placeOf, pageOf, windowOf } from './fields.js';
 import { hex, nameOf } from './names.js';
 

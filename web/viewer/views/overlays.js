@@ -1,7 +1,7 @@
 // What is drawn above video memory and what it shows: areas, pages, palettes, the packet's own outline.
 
 import { made } from '../panels/dom.js';
-import { KIND } from '../panels/rows.js';
+import { KIND } from '../reading/rows.js';
 import { offsetOf, placeOf, windowOf } from '../reading/fields.js';
 
 export const OVERLAYS = [

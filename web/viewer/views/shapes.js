@@ -1,7 +1,7 @@
 // The shapes of the packets of some rows, in cells: what a wireframe draws and an overdraw counts.
 
 import { offsetOf } from '../reading/fields.js';
-import { KIND } from '../panels/rows.js';
+import { KIND } from '../reading/rows.js';
 import { packetOf } from '../reading/packet.js';
 import { settingsBefore } from '../playing/settings.js';
 

@@ -1,6 +1,6 @@
 // The wireframe of a frame: the edges of all its primitives over the view.
 
-import { KIND } from '../panels/rows.js';
+import { KIND } from '../reading/rows.js';
 import { shapesOf } from './shapes.js';
 
 // Which points are joined, by how many there are.

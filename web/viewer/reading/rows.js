@@ -1,6 +1,8 @@
 // The rows of the list: packets and their parts, words for GP1, and reads in a row. They are in the order in which
 // they are completed. A row has its first step and the one that completes it, its kind, its head and its area.
 
+import { STEP } from './track.js';
+
 /** 0 to 8 are the classes of notes; a joint of a polyline is of class 2, too. */
 export const KIND = { OTHER: 0, POLYGON: 1, LINE: 2, RECTANGLE: 3, COPY: 4, LOAD: 5, STORE: 6, SETTING: 7, FINISH: 8,
     JOINT: 12, GP1: 16, READS: 17, STATUS: 18 };
@@ -67,7 +69,7 @@ export class Rows {
         const out = row === this.earlier.row ? [...this.earlier.words] : [];
         for (let step = this.first[row]; step <= this.done[row]; step++) {
             const kind = track.kind(step);
-            if (kind === 0 || (kind === 1 && this.kind[row] === KIND.GP1)) out.push(track.word(step));
+            if (kind === STEP.GP0 || (kind === STEP.GP1 && this.kind[row] === KIND.GP1)) out.push(track.word(step));
         }
         return out;
     }
