@@ -1,6 +1,5 @@
 """Recordings cut into parts, and what was written on each of them joined."""
 import os
-import unittest
 
 from tests.tools.corpus_support import Corpus, film
 from psxgpu import capture as c
