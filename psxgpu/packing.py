@@ -87,7 +87,8 @@ class Pieces:
 
 
 class XzFile:
-    """Unpacks xz: streams one after another, with zeros between and after them. `lzma.LZMAFile` takes any bytes there."""
+    """Unpacks xz: streams one after another, with zeros between and after them. `lzma.LZMAFile` takes any bytes
+    there."""
 
     def __init__(self, file: Readable) -> None:
         self.file = file

@@ -69,7 +69,8 @@ for _mode, _blend in enumerate(BLENDS):
 where('opaque', 'it is blended', 'blends', lambda m, old, first, texel: old(m, first | SEMI, texel), is_drawn)
 where('opaque', 'it is blended', 'fill_cell', blended_fill, shape('fill'))
 for _depth, _bits in enumerate(BITS):
-    where('bit 15 chooses blending, ' + _bits, 'each texel is blended', 'blends', lambda m, old, first, texel, d=_depth: (
+    where('bit 15 chooses blending, ' + _bits, 'each texel is blended', 'blends',
+          lambda m, old, first, texel, d=_depth: (
         bool(first & SEMI) if m.depth() == d else old(m, first, texel)))
     where('bit 15 chooses blending, ' + _bits, 'no texel is blended', 'blends', lambda m, old, first, texel, d=_depth: (
         m.depth() != d and old(m, first, texel)))

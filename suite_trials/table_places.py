@@ -74,7 +74,8 @@ for _at, _edge in enumerate(EDGES):
 for _at, _rules in enumerate((('area: left', 'left of X 0'), ('area: top', 'above Y 0'))):
     for _rule in _rules:
         where(_rule, 'the texels begin at the cut', 'texture_place', counted_from_the_cut(_at == 1), has_many_cells)
-where('left of X 0', 'X is 0 at least', 'placed', placed(lambda x, y: (max(x, 0), y)), lambda kind: kind.family != LINES)
+where('left of X 0', 'X is 0 at least', 'placed', placed(lambda x, y: (max(x, 0), y)),
+      lambda kind: kind.family != LINES)
 where('above Y 0', 'Y is 0 at least', 'placed', placed(lambda x, y: (x, max(y, 0))), lambda kind: kind.family != LINES)
 for _at, _rule in enumerate(('left of X 0', 'above Y 0')):
     where(_rule, 'it is left out', 'is_near', lambda m, old, points, at=_at: (
@@ -121,8 +122,10 @@ for _says, _method, _broken in (
         ('a lower edge is drawn, too', 'is_in', lambda m, old, v, p, q: old(m, v, p, q) or v == 0 and q.y == p.y),
         ('no cell on an edge is drawn', 'is_in', lambda m, old, v, p, q: v > 0)):
     where('cells of a slope', _says, _method, _broken, of(POLYGONS))
-where('cells of a slope', 'halves go down', 'along', lambda m, old, i, j, k, n: i - (2 * k * (i - j) + n) // (2 * n), of(LINES))
-where('cells of a slope', 'coordinates are rounded down', 'along', lambda m, old, i, j, k, n: i + k * (j - i) // n, of(LINES))
+where('cells of a slope', 'halves go down', 'along', lambda m, old, i, j, k, n: i - (2 * k * (i - j) + n) // (2 * n),
+      of(LINES))
+where('cells of a slope', 'coordinates are rounded down', 'along', lambda m, old, i, j, k, n: i + k * (j - i) // n,
+      of(LINES))
 where('cells of a slope', 'the last point is left out', 'last_point', lambda m, old, n: n - 1, lambda kind: (
     kind.family == LINES and kind.shape != 'polyline'))
 
@@ -134,25 +137,30 @@ def far_in(is_y: bool, points: Points) -> int:
 
 for _y, _rule in enumerate(('size rule in X', 'size rule in Y')):
     where(_rule, 'a larger one is drawn', 'is_near', lambda m, old, p, y=_y: old(m, p) or (
-        far_in(y == 1, p) > (1023, 511)[y] and far_in(y == 0, p) <= (1023, 511)[1 - y]), lambda k: k.family != RECTANGLES)
+        far_in(y == 1, p) > (1023, 511)[y] and far_in(y == 0, p) <= (1023, 511)[1 - y]),
+          lambda k: k.family != RECTANGLES)
     where(_rule, 'the largest is not drawn', 'is_near', lambda m, old, p, y=_y: (
         old(m, p) and far_in(y == 1, p) < (1023, 511)[y]), lambda k: k.family != RECTANGLES)
     where(_rule, 'it has a bit less', 'rectangle_size', lambda m, old, size, y=_y: (
         (size & 0x1FF, old(m, size)[1]) if y == 0 else (old(m, size)[0], size >> 16 & 0xFF)), of(RECTANGLES))
-where('size 0', 'it is 1', 'rectangle_size', lambda m, old, size: tuple(max(one, 1) for one in old(m, size)), of(RECTANGLES))
+where('size 0', 'it is 1', 'rectangle_size', lambda m, old, size: tuple(max(one, 1) for one in old(m, size)),
+      of(RECTANGLES))
 where('size 0', 'it is 1', 'fill_box', lambda m, old, corner, size: (
     *old(m, corner, size)[:2], *(max(one, 1) for one in old(m, corner, size)[2:])), shape('fill'))
 where('size 0', 'it is 0', 'moved_box', lambda m, old, corner, size: (
-    *old(m, corner, size)[:2], size & 0x3FF, size >> 16 & 0x1FF), lambda kind: kind.shape != 'fill' and not is_drawn(kind))
+    *old(m, corner, size)[:2], size & 0x3FF, size >> 16 & 0x1FF),
+      lambda kind: kind.shape != 'fill' and not is_drawn(kind))
 for _letter, _at in (('X', 0), ('Y', 1)):
     moved('wrap in ' + _letter, 'it ends at the edge', lambda m, x, y, at=_at: (
         None if (x, y)[at] > (1023, 511)[at] else (x, y)))
-where('wrap in X', 'the source ends at the edge', 'copied', lambda m, old, x, y: 0 if x > 1023 else old(m, x, y), shape('copy'))
-where('wrap in Y', 'the source ends at the edge', 'copied', lambda m, old, x, y: 0 if y > 511 else old(m, x, y), shape('copy'))
+where('wrap in X', 'the source ends at the edge', 'copied', lambda m, old, x, y: 0 if x > 1023 else old(m, x, y),
+      shape('copy'))
+where('wrap in Y', 'the source ends at the edge', 'copied', lambda m, old, x, y: 0 if y > 511 else old(m, x, y),
+      shape('copy'))
 for _at, _bits in ((2, 0x1FF), (3, 0xFF)):
     where('large size', 'it has a bit less', 'moved_box', lambda m, old, corner, size, at=_at, bits=_bits: tuple(
-        (one - 1 & bits) + 1 if number == at else one for number, one in enumerate(old(m, corner, size))), lambda kind: (
-            kind.shape != 'fill'))
+        (one - 1 & bits) + 1 if number == at else one for number, one in enumerate(old(m, corner, size))),
+          lambda kind: kind.shape != 'fill')
     where('large size', 'it has a bit less', 'fill_box', lambda m, old, corner, size, at=_at, bits=_bits: tuple(
         one & bits if number == at else one for number, one in enumerate(old(m, corner, size))), shape('fill'))
 where('large size', 'it is cut by the drawing area', 'fill_cell', lambda m, old, x, y, v: (
@@ -162,7 +170,9 @@ for _bit in range(16):
     for _shape, _method in (('copy', 'plot'), ('load', 'load_cell')):
         where('all bits of a cell', _says, _method, lambda m, old, x, y, v, bit=_bit: old(m, x, y, v & ~(1 << bit)),
               shape(_shape))
-    where('all bits of a cell', _says, 'read_cell', lambda m, old, x, y, bit=_bit: old(m, x, y) & ~(1 << bit), shape('store'))
+    where('all bits of a cell', _says, 'read_cell', lambda m, old, x, y, bit=_bit: old(m, x, y) & ~(1 << bit),
+          shape('store'))
 for _code in range(2, 9):
-    where('control words between', 'GP1(%02Xh) drops what is unfinished' % _code, 'gp1', lambda m, old, word, code=_code: (
+    where('control words between', 'GP1(%02Xh) drops what is unfinished' % _code, 'gp1',
+          lambda m, old, word, code=_code: (
         m.start_clean() if word >> 24 == code else old(m, word)))

@@ -26,7 +26,8 @@ def bits_lost(rule: str, number: int, method: str, depth: int, bits: range, unit
     """Plants a fault for each bit of a place."""
     for bit in bits:
         change = without(number, unit << bit)
-        at_depth(rule, 'bit %d is lost' % bit, depth, method, lambda m, old, *words, change=change: change(old(m, *words)))
+        at_depth(rule, 'bit %d is lost' % bit, depth, method,
+                 lambda m, old, *words, change=change: change(old(m, *words)))
 
 
 def turned(is_x: bool, is_y: bool, is_both: bool) -> Broken:
@@ -57,7 +58,8 @@ for _depth in range(3):
     at_depth('texel 0000h', 'it is drawn', _depth, 'is_drawn', lambda m, old, texel: True)
     at_depth('bit 15 of a texel', 'it is lost', _depth, 'top_bit', lambda m, old, texel: 0)
     at_depth('bit 15 of a texel', 'it is always 1', _depth, 'top_bit', lambda m, old, texel: 0x8000)
-where('rounding of U and V', 'to the nearest', 'texel_mean', lambda m, old, total, area: (2 * total + area) // (2 * area))
+where('rounding of U and V', 'to the nearest', 'texel_mean',
+      lambda m, old, total, area: (2 * total + area) // (2 * area))
 where('palette wraps', 'it ends at the edge', 'palette_entry', lambda m, old, clut, index: (
     0 if m.palette_place(clut)[0] + index > 1023 else old(m, clut, index)))
 for _at, _rule in enumerate(('mask of U', 'mask of V', 'offset of U', 'offset of V')):

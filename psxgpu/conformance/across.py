@@ -58,14 +58,15 @@ def across(chapter: Chapter, name: str, says: str, rules: Sequence[str], familie
                 for drawer, x, y in sheet(some):
                     one(t, drawer, x, y)
             marks = frozenset((rule, kind.name) for rule in rules for drawer in some for kind in drawer.kinds)
-            chapter.add('%s-in-%s' % (name, family), says.format(WORDS[family]), decides, FORMULA, write, section, marks)
+            chapter.add('%s-in-%s' % (name, family), says.format(WORDS[family]), decides, FORMULA, write, section,
+                        marks)
         return one
     return keep
 
 
 def expect(t: Draft, drawer: Drawer, x: int, y: int, value: Value, is_twice: bool = False) -> None:
-    """Expects the cells of a box: `value` has the column and the row in the box. `is_twice`: it matters whether a cell is
-    drawn twice."""
+    """Expects the cells of a box: `value` has the column and the row in the box. `is_twice`: it matters whether a
+    cell is drawn twice."""
     for down in range(drawer.height):
         for right in range(drawer.width):
             if 0 <= x + right < WIDTH and 0 <= y + down < t.rows:

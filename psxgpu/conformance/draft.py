@@ -48,8 +48,8 @@ class Picture:
 class Draft:
     """A test that is being written. Cells that it does not mention have to be 0000h.
 
-    `subject`: the words that the test is about. `ignored`: cells whose value does not matter. `looked_at`: the box that a
-    page shows; without it, the cells that are expected."""
+    `subject`: the words that the test is about. `ignored`: cells whose value does not matter. `looked_at`: the box
+    that a page shows; without it, the cells that are expected."""
 
     def __init__(self, version: int = 1, rows: int = HEIGHT) -> None:
         self.capture = Capture(version)

@@ -40,8 +40,8 @@ def in_version(data: bytes, version: int) -> Optional[bytes]:
 
 
 class Folder:
-    """The folder that is written. `program`: the path of psxgpu_tool, or None. `has_programs`: programs for the console are
-    written, too. `left_out`: how many files of each kind could not be made."""
+    """The folder that is written. `program`: the path of psxgpu_tool, or None. `has_programs`: programs for the
+    console are written, too. `left_out`: how many files of each kind could not be made."""
 
     def __init__(self, path: str, program: Optional[str], has_programs: bool = False) -> None:
         self.path, self.program, self.has_programs = path, program, has_programs
@@ -105,7 +105,8 @@ class Folder:
 
 
     def programs(self, tests: Sequence[Test]) -> int:
-        """Writes the programs that hold many tests, and which square is which test. Returns how many no program holds."""
+        """Writes the programs that hold many tests, and which square is which test. Returns how many no program
+        holds."""
         folder = os.path.join(self.path, 'programs')
         os.makedirs(folder, exist_ok=True)
         lines = ['\t'.join(programs.COLUMNS)]

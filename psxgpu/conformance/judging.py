@@ -13,8 +13,8 @@ PASSED, FAILED, DIFFERS, NOT_TAKEN, TROUBLE = KINDS = ('passed', 'failed', 'diff
 
 @dataclass
 class Verdict:
-    """What is found of a test: one of KINDS, and the reason. `dump`: what was drawn, if cells differ at `places`. `shown`:
-    the picture that was shown instead of the expected one."""
+    """What is found of a test: one of KINDS, and the reason. `dump`: what was drawn, if cells differ at `places`.
+    `shown`: the picture that was shown instead of the expected one."""
     test: Test
     kind: str
     reason: str = ''

@@ -1,4 +1,5 @@
-"""The kinds of packet, which are the columns of the table of rules, and packets of each kind that draw a box of cells."""
+"""The kinds of packet, which are the columns of the table of rules, and packets of each kind that draw a box of
+cells."""
 from __future__ import annotations
 
 from dataclasses import dataclass
@@ -16,8 +17,8 @@ SEGMENTS = ('polyline', 'joint')
 
 @dataclass(frozen=True)
 class Kind:
-    """A kind of packet, or the part of a packet that is drawn by itself: half of a quad, a segment of a polyline, half of
-    a word. `look`: one of LOOKS, empty for a transfer."""
+    """A kind of packet, or the part of a packet that is drawn by itself: half of a quad, a segment of a polyline,
+    half of a word. `look`: one of LOOKS, empty for a transfer."""
     family: str
     shape: str
     look: str = ''
@@ -106,7 +107,8 @@ class Drawer:
 
     def unsure(self, is_twice: bool) -> Iterator[Tuple[int, int, int, int]]:
         """Yields boxes within the box that rules of lines and of edges decide: the last point of a line. `is_twice`: it
-        matters whether a cell is drawn twice, so the slope that two triangles share and the joint of a polyline, too."""
+        matters whether a cell is drawn twice, so the slope that two triangles share and the joint of a polyline,
+        too."""
         if self.family == LINES:
             yield self.width, 0, 1, self.height
             if is_twice and len(self.kinds) > 1:

@@ -1,8 +1,8 @@
 """Programs for the console that hold many tests each, and show a page with a square for each test: green or red.
 
 A test begins with a reset and with video memory of zeros, and is judged before the next one begins. What it reads is
-compared when it is read. At its end the program sets the cells that do not matter to 0, and compares video memory by the
-CRC-32 of parts of 64 by 64 cells. All that is compared is what the test says: no other player has a part in it.
+compared when it is read. At its end the program sets the cells that do not matter to 0, and compares video memory by
+the CRC-32 of parts of 64 by 64 cells. All that is compared is what the test says: no other player has a part in it.
 """
 from __future__ import annotations
 
@@ -129,7 +129,8 @@ def programs(tests: Iterable[Test]) -> List[Program]:
     chapters = list(dict.fromkeys(test.chapter for test in held))
     number = max(-(-len(chapters) // MOST_CHAPTERS), -(-len(held) // MOST_TESTS))
     most = -(-len(chapters) // number) if number else 0
-    return [Program([test for test in held if test.chapter in chapters[most * k:most * (k + 1)]]) for k in range(number)]
+    return [Program([test for test in held if test.chapter in chapters[most * k:most * (k + 1)]])
+            for k in range(number)]
 
 
 def places(name: str, program: Program) -> Iterator[str]:

@@ -32,7 +32,8 @@ def reduce_one(verdict: Verdict, ours: Player, theirs: Player, name: str, progra
 
 
 def reduce_all(verdicts: List[Verdict], theirs: Player, folder: str, given: Optional[str]) -> List[str]:
-    """Reduces each failure whose cells or words differ. Returns a line for each. Raises ToolError without psxgpu_tool."""
+    """Reduces each failure whose cells or words differ. Returns a line for each. Raises ToolError without
+    psxgpu_tool."""
     program = player.find(given)
     ours = player_of(program, appends=True)
     os.makedirs(folder, exist_ok=True)

@@ -1,7 +1,7 @@
 """What a test is, and how a chapter has its own.
 
-A chapter is a module of `chapters` with a `CHAPTER`. A test is a function that fills a `Draft`: it writes the capture, and
-says what has to come out of it.
+A chapter is a module of `chapters` with a `CHAPTER`. A test is a function that fills a `Draft`: it writes the
+capture, and says what has to come out of it.
 """
 from __future__ import annotations
 
@@ -13,8 +13,8 @@ from typing import Callable, FrozenSet, Iterable, List, Optional, Tuple
 from psxgpu.conformance.draft import HEIGHT, Box, Draft, Expected, Picture, Place, cell, rgb
 from psxgpu.vram import WIDTH
 
-__all__ = ['FORMULA', 'HAND', 'HEIGHT', 'OWN', 'PSX_SPX', 'Box', 'Chapter', 'Draft', 'Expected', 'Picture', 'Place', 'Test',
-           'WIDTH', 'cell', 'rgb']
+__all__ = ['FORMULA', 'HAND', 'HEIGHT', 'OWN', 'PSX_SPX', 'Box', 'Chapter', 'Draft', 'Expected', 'Picture', 'Place',
+           'Test', 'WIDTH', 'cell', 'rgb']
 
 PSX_SPX, OWN = 'psx-spx', 'own rule'                # who decides
 HAND, FORMULA = 'hand', 'formula'                   # where the expected values come from
@@ -25,8 +25,8 @@ Marks = FrozenSet[Tuple[str, str]]                  # cells of the table of rule
 
 @dataclass(frozen=True)
 class Test:
-    """A test. `says`: its rule in one sentence. `section`: of psx-spx. `needs`: what the player has to take. `marks`: the
-    cells of the table of rules that it tests."""
+    """A test. `says`: its rule in one sentence. `section`: of psx-spx. `needs`: what the player has to take. `marks`:
+    the cells of the table of rules that it tests."""
     chapter: str
     name: str
     says: str

@@ -1,7 +1,7 @@
 """The table of rule by packet: a row for each rule, a column for each kind of packet.
 
-A cell has the tests that name it in their marks, or the reason why the rule does not apply. `REASONS` has a function for
-each rule: it returns the reason for a kind of packet, or an empty text if there has to be a test.
+A cell has the tests that name it in their marks, or the reason why the rule does not apply. `REASONS` has a function
+for each rule: it returns the reason for a kind of packet, or an empty text if there has to be a test.
 """
 from __future__ import annotations
 
@@ -176,7 +176,8 @@ def looks_named(looks: Sequence[str], kinds: Sequence[Kind]) -> str:
 
 
 def named(kinds: Sequence[Kind], all_of_them: Sequence[Kind]) -> str:
-    """Returns what some kinds of a family have in common: their shapes and their looks, each only if not all are there."""
+    """Returns what some kinds of a family have in common: their shapes and their looks, each only if not all are
+    there."""
     shapes_of: Dict[str, List[str]] = {}
     for kind in kinds:
         shapes_of.setdefault(kind.look, []).append(kind.shape)
@@ -189,12 +190,15 @@ def named(kinds: Sequence[Kind], all_of_them: Sequence[Kind]) -> str:
         names = [', '.join(some)] if set(some) != every_shape else []
         names += [looks_named(looks, all_of_them)] if set(looks) != every_look else []
         parts.append(' '.join(names))
-    return ' and '.join(parts).replace('load, low half, load, high half', 'load').replace('store, low half, store, high half',
-                                                                                          'store')
+    text = ' and '.join(parts)
+    for word in ('load', 'store'):
+        text = text.replace('%s, low half, %s, high half' % (word, word), word)
+    return text
 
 
 def field(rule: str, family: str, cells: Cells) -> str:
-    """Returns what the cells of a row have in a family, each text with the kinds that have it unless all have the same."""
+    """Returns what the cells of a row have in a family, each text with the kinds that have it unless all have the
+    same."""
     kinds = [kind for kind in KINDS if kind.family == family]
     found: Dict[str, List[Kind]] = {}
     for kind in kinds:

@@ -77,8 +77,8 @@ def number_of(path: str) -> Optional[int]:
 
 
 def check_numbers(paths: Sequence[str]) -> None:
-    """Raises ToolError unless the parts are there from the first to the last, in order. The last is the last one only if
-    its folder has no file of the next part."""
+    """Raises ToolError unless the parts are there from the first to the last, in order. The last is the last one only
+    if its folder has no file of the next part."""
     numbers = [number_of(path) for path in paths]
     if not any(numbers):
         return
@@ -86,7 +86,8 @@ def check_numbers(paths: Sequence[str]) -> None:
         if number is None:
             raise ToolError('%s: its name does not begin with the number of its part, as %03d.' % (path, wanted))
         if number != wanted:
-            raise ToolError('%s: part %d, expected part %d: one is missing, or they are not in order' % (path, number, wanted))
+            raise ToolError('%s: part %d, expected part %d: one is missing, or they are not in order'
+                            % (path, number, wanted))
     folder = os.path.dirname(paths[-1]) or '.'
     for name in sorted(os.listdir(folder)):
         if number_of(name) == len(paths) + 1:
@@ -125,7 +126,8 @@ def glue(word: str, paths: Sequence[str], out: BinaryIO) -> None:
             if word in ('list', 'sums'):
                 event = first_event(file)
                 if event is not None and event <= done:
-                    raise ToolError('%s: event %d, after event %d of the parts before it: not in order' % (path, event, done))
+                    raise ToolError('%s: event %d, after event %d of the parts before it: not in order'
+                                    % (path, event, done))
                 done = last_event(file, end) or done
             file.seek(0)
             copy_bytes(file, out, end)

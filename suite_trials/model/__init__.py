@@ -1,7 +1,7 @@
 """A plain model of the machine, for the planted faults of `faults` and the changes of `mutants`.
 
-It follows docs/MACHINE.md, one small method a rule, so that a fault is one method that is replaced. It is slow, and made
-for captures as small as those of the suite. Each module adds to the machine of the one before it.
+It follows docs/MACHINE.md, one small method a rule, so that a fault is one method that is replaced. It is slow, and
+made for captures as small as those of the suite. Each module adds to the machine of the one before it.
 """
 from __future__ import annotations
 

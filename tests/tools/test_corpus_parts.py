@@ -64,7 +64,8 @@ class Parts(Corpus):
                            (names[::2], '003.capture.play: part 3, expected part 2'),
                            ([names[1], names[0], names[2]], '002.capture.play: part 2, expected part 1'),
                            (names[:2], '003.capture.play: part 3 is missing'),
-                           ([names[0], 'x.play'], 'x.play: its name does not begin with the number of its part, as 002.')):
+                           ([names[0], 'x.play'],
+                            'x.play: its name does not begin with the number of its part, as 002.')):
             done = self.corpus('glue', 'play', *some)
             self.assertEqual((done.returncode, done.stderr.count('\n')), (2, 1))
             self.assertIn(text, done.stderr)
@@ -80,7 +81,8 @@ class Parts(Corpus):
         self.write('a.snapshot', b'PSXGPUS1' + bytes(100))
         for name, text in (('cut.capture', 'cut at byte %d' % len(self.read('cut.capture'))),
                            ('a.snapshot', 'a snapshot: `split` takes a capture')):
-            self.expect(2, '', '%s: %s' % (name, text), 'split', name, '--parts', '2', '--into', 'parts', '--player', './small')
+            self.expect(2, '', '%s: %s' % (name, text), 'split', name, '--parts', '2', '--into', 'parts', '--player',
+                        './small')
             self.assertFalse(os.path.exists(self.path('parts')))
 
     def test_too_few_frames(self):

@@ -25,7 +25,8 @@ def plain(t: Draft, value: int) -> None:
     texels(t, 2, 0, 0, 16, 16, lambda u, v: value)
 
 
-@across(gouraud.CHAPTER, 'colors', 'In {} without texture the colour is divided by 8, and bit 15 of the cell is cleared.',
+@across(gouraud.CHAPTER, 'colors',
+        'In {} without texture the colour is divided by 8, and bit 15 of the cell is cleared.',
         ('colour', 'bit 15 is cleared'), only=has_no_texture)
 def colors(t: Draft, drawer: Drawer, x: int, y: int) -> None:
     under(t, drawer, x, y, lambda i, j: 0xFFFF)
@@ -180,7 +181,8 @@ def products(t: Draft, drawer: Drawer, x: int, y: int) -> None:
     shines(t, drawer, x, y, 0x406080, cell(16, 16, 16), cell(16, 12, 8))
 
 
-@across(modulation.CHAPTER, 'limit', 'A product above 31 is 31 in {}; a raw texel stays.', ('limit of modulation',), SOLID,
+@across(modulation.CHAPTER, 'limit', 'A product above 31 is 31 in {}; a raw texel stays.', ('limit of modulation',),
+        SOLID,
         only=is_textured, before=lambda t: plain(t, cell(16, 20, 31)))
 def limit(t: Draft, drawer: Drawer, x: int, y: int) -> None:
     shines(t, drawer, x, y, 0xFFFFFF, cell(16, 20, 31), cell(31, 31, 31))

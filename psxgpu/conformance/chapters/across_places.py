@@ -1,4 +1,5 @@
-"""Where each kind of packet draws: offset, drawing area, the edges of video memory, the bits and the order of vertices."""
+"""Where each kind of packet draws: offset, drawing area, the edges of video memory, the bits and the order of
+vertices."""
 from __future__ import annotations
 
 from typing import List, Sequence, Tuple
@@ -35,7 +36,8 @@ def shows(t: Draft, drawer: Drawer, x: int, y: int) -> None:
     expect(t, drawer, x, y, lambda i, j: value(drawer, i, j))
 
 
-@across(area.CHAPTER, 'offset', 'The drawing offset moves {}, in X and in Y.', ('offset in X', 'offset in Y'), before=loaded)
+@across(area.CHAPTER, 'offset', 'The drawing offset moves {}, in X and in Y.', ('offset in X', 'offset in Y'),
+        before=loaded)
 def offset(t: Draft, drawer: Drawer, x: int, y: int) -> None:
     t.before(drawing_offset(-13, 9))
     t.packet(words(drawer, x + 13, y - 9))
@@ -43,8 +45,8 @@ def offset(t: Draft, drawer: Drawer, x: int, y: int) -> None:
 
 
 def there_and_back(t: Draft, drawer: Drawer, x: int, y: int, corners: List[int]) -> None:
-    """Draws the upper two of four lines to the right and the lower two to the left, so that an edge cuts each segment of a
-    polyline."""
+    """Draws the upper two of four lines to the right and the lower two to the left, so that an edge cuts each segment
+    of a polyline."""
     x1, y1, x2, y2 = corners
     for down in range(4):
         ends = [x, x + 4, x + 8] if down < 2 else [x + 8, x + 4, x]
@@ -60,7 +62,8 @@ def there_and_back(t: Draft, drawer: Drawer, x: int, y: int, corners: List[int])
 
 def cut(number: int) -> None:
     """A test of an edge of the drawing area, two cells inside of each box."""
-    @across(area.CHAPTER, EDGES[number] + '-edge', 'The %s edge of the drawing area cuts {}; what is left keeps its texels.'
+    @across(area.CHAPTER, EDGES[number] + '-edge',
+            'The %s edge of the drawing area cuts {}; what is left keeps its texels.'
             % EDGES[number], ('area: ' + EDGES[number],), decides=OWN, before=loaded)
     def one(t: Draft, drawer: Drawer, x: int, y: int) -> None:
         corners = [0, 0, 1023, 511]
@@ -96,8 +99,9 @@ def crossing(t: Draft, drawer: Drawer, x: int, y: int, is_down: bool) -> None:
 def over(name: str, side: str, rule: str, x: int, y: int, families: Sequence[str] = DRAWN) -> None:
     """A test of boxes over an edge of video memory: a number that is not 0 is the same for all of them."""
     for family in families:
-        some = [drawer for drawer in DRAWERS if drawer.family == family and (name != 'right' or drawer.kinds[0].shape
-                                                                            != '1 by 1')]
+        some = [drawer for drawer in DRAWERS if drawer.family == family]
+        if name == 'right':         # a rectangle of one cell is at X 1023 at most
+            some = [drawer for drawer in some if drawer.kinds[0].shape != '1 by 1']
 
         def write(t: Draft, some: List[Drawer] = some) -> None:
             t.open()
@@ -111,7 +115,7 @@ def over(name: str, side: str, rule: str, x: int, y: int, families: Sequence[str
                 shows(t, drawer, *place)
                 if drawer.kinds[0].shape == '1 by 1' and x <= 0:         # one beside the box, outside of video memory
                     t.packet(packets(drawer, *((-1, place[1] + 5) if x else (place[0] + 5, -1)))[0])
-                if name in ('right', 'bottom'):     # that the last column and row are in the drawing area is an own rule
+                if name in ('right', 'bottom'):     # that the drawing area has its last cells is an own rule
                     t.ignore(*((1023, place[1], 1, drawer.height) if x else (place[0], 511, drawer.width, 1)))
         area.CHAPTER.add('%s-of-%s' % (name, family), '%s: what is %s is left out, and the rest keeps its texels.' % (
             family.capitalize(), side), PSX_SPX, FORMULA, write, None,
@@ -167,10 +171,12 @@ def control_words(t: Draft, drawer: Drawer, x: int, y: int) -> None:
 
 # The order of the vertices: all that go round a box, or through it.
 
-ORDERS = ((0, 1, 2, 3), (1, 0, 3, 2), (2, 3, 0, 1), (3, 2, 1, 0), (0, 2, 1, 3), (2, 0, 3, 1), (1, 3, 0, 2), (3, 1, 2, 0))
+ORDERS = ((0, 1, 2, 3), (1, 0, 3, 2), (2, 3, 0, 1), (3, 2, 1, 0),
+          (0, 2, 1, 3), (2, 0, 3, 1), (1, 3, 0, 2), (3, 1, 2, 0))
 
 
-@across(polygons.CHAPTER, 'each-order', 'A box is drawn whole in each order of its vertices, by {}.', ('order of vertices',),
+@across(polygons.CHAPTER, 'each-order', 'A box is drawn whole in each order of its vertices, by {}.',
+        ('order of vertices',),
         (POLYGONS,), before=loaded)
 def each_order(t: Draft, drawer: Drawer, x: int, y: int) -> None:
     for number, order in enumerate(ORDERS):         # upside down, from right to left, turned

@@ -32,8 +32,8 @@ def color(drawer: Drawer) -> int:
 
 
 def ends(is_y: bool) -> List[Tuple[List[int], int]]:
-    """Returns a drawing area at each end of the long side, and the number of its cell that is not judged: the one at its
-    inner edge."""
+    """Returns a drawing area at each end of the long side, and the number of its cell that is not judged: the one at
+    its inner edge."""
     last = LAST[is_y]
     return [(list(drawing_area(0, 0, *turned(8, LAST[not is_y], is_y))), 8),
             (list(drawing_area(*turned(last - 9, 0, is_y), *LAST)), last - 9)]
@@ -54,14 +54,16 @@ def far(is_y: bool) -> None:
     letter = 'XY'[is_y]
 
     @across(polygons.CHAPTER, 'size-in-%s' % letter.lower(),
-            'In {} vertices %d apart in %s are drawn, and vertices %d apart are not.' % (LAST[is_y], letter, LAST[is_y] + 1),
+            'In {} vertices %d apart in %s are drawn, and vertices %d apart are not.' % (
+                LAST[is_y], letter, LAST[is_y] + 1),
             (RULES[is_y],), (POLYGONS,), before=loaded)
     def of_polygons(t: Draft, drawer: Drawer, x: int, y: int) -> None:
         at = 20 + 6 * y + x
         for area, _ in ends(is_y):
             t.before(area)
             for start, side in ((0, at), (-1, at + 10)):
-                places = [turned(along, across_it, is_y) for across_it in (side, side + 8) for along in (start, LAST[is_y])]
+                places = [turned(along, across_it, is_y)
+                          for across_it in (side, side + 8) for along in (start, LAST[is_y])]
                 places = [places[at] for at in ((0, 2, 1, 3) if is_y else (0, 1, 2, 3))]
                 t.packet(drawer.polygons(places, [color(drawer)] * 4, [(0, 0)] * 4, page_of(2)))
         judged(t, is_y, at, 8, True)
@@ -123,7 +125,8 @@ def one_half(t: Draft, drawer: Drawer, x: int, y: int) -> None:
                     t.cell(i, top + j, CELL)
 
 
-@across(rectangles.CHAPTER, 'empty', 'With a width or a height of 0 nothing is drawn, in {}.', ('size 0',), (RECTANGLES,),
+@across(rectangles.CHAPTER, 'empty', 'With a width or a height of 0 nothing is drawn, in {}.', ('size 0',),
+        (RECTANGLES,),
         only=lambda drawer: not drawer.opcode & 0x18, before=loaded)
 def empty(t: Draft, drawer: Drawer, x: int, y: int) -> None:
     words = drawer.words(x + 10, y + 10, color(drawer))

@@ -81,7 +81,8 @@ def plane(first: int, right: int, down: int, i: int, j: int) -> int:
 CHANNELS = (0x40, 0xB3, 0x25), (0x91, 0xF5, 0x5A), (0x87, 0x18, 0xC6)       # at the first corner, right, below
 
 
-@across(gouraud.CHAPTER, 'exact', 'A channel is the exact mean, rounded down, in {} that is shaded.', ('rounding of colours',),
+@across(gouraud.CHAPTER, 'exact', 'A channel is the exact mean, rounded down, in {} that is shaded.',
+        ('rounding of colours',),
         (POLYGONS,), OWN, only=lambda drawer: drawer.is_shaded,
         before=lambda t: texels(t, 2, 0, 0, 8, 8, lambda u, v: cell(16, 16, 16)))
 def exact(t: Draft, drawer: Drawer, x: int, y: int) -> None:
@@ -114,7 +115,8 @@ def mapped(name: str, says: str, first: int, other: int) -> None:
         corners: List[Point] = [(i, j) for j in (0, 8) for i in (0, 8)]
         coords = [(plane(first, other, first, i, j), plane(first, first, other, i, j)) for i, j in corners]
         t.packet(drawer.polygons([(x + i, y + j) for i, j in corners], [NEUTRAL] * 4, coords, page_of(2)))
-        expect(t, drawer, x, y, lambda i, j: varied(2)(plane(first, other, first, i, j), plane(first, first, other, i, j)))
+        expect(t, drawer, x, y, lambda i, j: varied(2)(plane(first, other, first, i, j),
+                                                       plane(first, first, other, i, j)))
 
 
 mapped('double-size', 'At double size U and V are exact, rounded down, in {}.', 2, 6)

@@ -4,7 +4,8 @@ from __future__ import annotations
 from typing import Callable, Tuple
 
 from psxgpu.capture import texture_window
-from psxgpu.conformance.across import (CLUT, DEEP, ENTRIES, PAGE_X, across, corners, expect, has_many_cells, is_textured,
+from psxgpu.conformance.across import (CLUT, DEEP, ENTRIES, PAGE_X, across, corners, expect, has_many_cells,
+                                       is_textured,
                                        mode, page_of, palette, texel_of, texels, textured, varied)
 from psxgpu.conformance.chapters import rectangles, windows
 from psxgpu.conformance.packets import POLYGONS, RECTANGLES, Drawer
@@ -50,10 +51,10 @@ window('mask-of-u', 'In {} the window masks each of the upper five bits of U.', 
        lambda drawer: (corners(drawer)[0], 0))
 window('mask-of-v', 'In {} the window masks each of the upper five bits of V.', 'window: mask of V', (0, 31, 0, 0),
        lambda drawer: (0, corners(drawer)[1]))
-window('offset-of-u', 'In {} the window\'s offset gives the upper five bits of U.', 'window: offset of U', (31, 0, 31, 0),
-       lambda drawer: (0, 0))
-window('offset-of-v', 'In {} the window\'s offset gives the upper five bits of V.', 'window: offset of V', (0, 31, 0, 31),
-       lambda drawer: (0, 0))
+window('offset-of-u', 'In {} the window\'s offset gives the upper five bits of U.', 'window: offset of U',
+       (31, 0, 31, 0), lambda drawer: (0, 0))
+window('offset-of-v', 'In {} the window\'s offset gives the upper five bits of V.', 'window: offset of V',
+       (0, 31, 0, 31), lambda drawer: (0, 0))
 
 
 def flips(name: str, rule: str, is_x: bool, is_y: bool) -> None:
@@ -61,9 +62,9 @@ def flips(name: str, rule: str, is_x: bool, is_y: bool) -> None:
     def one(t: Draft, drawer: Drawer, x: int, y: int) -> None:
         u, v = (15 if is_x else 0, 15 if is_y else 0) if drawer.family == RECTANGLES else (0, 0)
         shows(t, drawer, (x, y), (u, v), lambda i, j: (abs(u - i), abs(v - j)), flip_x=is_x, flip_y=is_y)
-    for family, says in ((POLYGONS, '{} does not look at GP0(E1h) %s.'), (RECTANGLES, '{} is flipped by GP0(E1h) %s.')):
+    for family, says in ((POLYGONS, 'In {} the texture is not flipped by GP0(E1h) %s.'), (RECTANGLES, 'In {} the texture is flipped by GP0(E1h) %s.')):
         bits = ' and '.join(['bit 12'] * is_x + ['bit 13'] * is_y)
-        across(rectangles.CHAPTER, name, (says % bits).replace('{}', 'In {} the texture' if family == RECTANGLES else '{}'),
+        across(rectangles.CHAPTER, name, says % bits,
                (rule,), (family,), PSX_SPX, has_many_cells, 'GP0(E1h) Draw Mode setting',
                lambda t: loaded(t, 0, 0))(one)
 

@@ -14,7 +14,8 @@ def fill_words(x: int, y: int, width: int, height: int) -> list[int]:
     return [0x02000000 | COLOR, y << 16 | x, height << 16 | width]
 
 
-def fills(name: str, says: str, words: list[int], *boxes: tuple[int, int, int, int], rules: tuple[str, ...] = ()) -> None:
+def fills(name: str, says: str, words: list[int], *boxes: tuple[int, int, int, int],
+          rules: tuple[str, ...] = ()) -> None:
     """A test of one fill: the boxes that it has to fill."""
     def write(t: Draft) -> None:
         t.packet(words)

@@ -134,7 +134,8 @@ def split_palette(t: Draft) -> None:
     texels(t, 1, 0, 0, 16, 16, lambda u, v: 14 + u % 16)
 
 
-@across(CHAPTER, 'palette-wraps', 'In {} a palette at the right edge continues at X 0 of the same row.', ('palette wraps',),
+@across(CHAPTER, 'palette-wraps', 'In {} a palette at the right edge continues at X 0 of the same row.',
+        ('palette wraps',),
         SOLID, OWN, only=is_textured, before=split_palette, section='Clut Attribute')
 def palette_wraps(t: Draft, drawer: Drawer, x: int, y: int) -> None:
     mode(t, page_of(1))

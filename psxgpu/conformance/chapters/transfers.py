@@ -44,7 +44,8 @@ def ignores_the_draw_mode(t: Draft) -> None:
     t.box(0, 0, 16, 4, rgb(0x474747))
 
 
-@copies.CHAPTER.test('A copy is not cut at any edge of the drawing area, nor moved by the drawing offset.', worked=FORMULA,
+@copies.CHAPTER.test('A copy is not cut at any edge of the drawing area, nor moved by the drawing offset.',
+                     worked=FORMULA,
                      marks=marks(NOT_ASKED, COPY))
 def copied_beyond_the_area(t: Draft) -> None:
     cells = numbers(128)
@@ -55,7 +56,8 @@ def copied_beyond_the_area(t: Draft) -> None:
         t.row(16, 16 + y, cells[16 * y:16 * y + 16])
 
 
-@loads.CHAPTER.test('A load is not cut at any edge of the drawing area, nor moved by the drawing offset.', worked=FORMULA,
+@loads.CHAPTER.test('A load is not cut at any edge of the drawing area, nor moved by the drawing offset.',
+                    worked=FORMULA,
                     marks=marks(NOT_ASKED, *LOADS))
 def loaded_beyond_the_area(t: Draft) -> None:
     small_area(t)
@@ -64,7 +66,8 @@ def loaded_beyond_the_area(t: Draft) -> None:
         t.row(16, 16 + y, numbers(128)[16 * y:16 * y + 16])
 
 
-@stores.CHAPTER.test('A store is not cut at any edge of the drawing area, nor moved by the drawing offset.', worked=FORMULA,
+@stores.CHAPTER.test('A store is not cut at any edge of the drawing area, nor moved by the drawing offset.',
+                     worked=FORMULA,
                      marks=marks(NOT_ASKED, *STORES))
 def ignores_area_and_offset(t: Draft) -> None:
     cells = numbers(128)
@@ -98,7 +101,8 @@ def no_cell_more(t: Draft) -> None:
 BITS = [1 << at // 2 for at in range(32)]
 
 
-@copies.CHAPTER.test('A copy moves each of the sixteen bits.', worked=FORMULA, marks=marks(['all bits of a cell'], COPY))
+@copies.CHAPTER.test('A copy moves each of the sixteen bits.', worked=FORMULA,
+                     marks=marks(['all bits of a cell'], COPY))
 def each_bit(t: Draft) -> None:
     t.given(0, 0, 32, BITS)
     t.packet(copy(0, 0, 64, 9, 32, 1))
@@ -112,7 +116,8 @@ def each_bit_of_both_halves(t: Draft) -> None:
     t.row(0, 0, BITS)
 
 
-@stores.CHAPTER.test('A store moves each of the sixteen bits, in the low and in the high half of a word.', worked=FORMULA,
+@stores.CHAPTER.test('A store moves each of the sixteen bits, in the low and in the high half of a word.',
+                     worked=FORMULA,
                      marks=marks(['all bits of a cell'], *STORES))
 def each_bit_of_a_word(t: Draft) -> None:
     t.given(0, 0, 32, BITS)
@@ -150,7 +155,8 @@ def wraps_both_halves(t: Draft) -> None:
         t.row(1022, (510 + y) % 512, cells[5 * y:5 * y + 5])
 
 
-@stores.CHAPTER.test('A store over both edges continues at 0, in the low and in the high half of a word.', worked=FORMULA,
+@stores.CHAPTER.test('A store over both edges continues at 0, in the low and in the high half of a word.',
+                     worked=FORMULA,
                      marks=marks(['wrap in X', 'wrap in Y'], *STORES))
 def wraps_both_ways(t: Draft) -> None:
     cells = numbers(20)
@@ -164,14 +170,16 @@ def wraps_both_ways(t: Draft) -> None:
 
 # Large boxes.
 
-@fills.CHAPTER.test('A fill of 1024 by 511 leaves one row, whatever the drawing area is.', marks=marks(['large size'], FILL))
+@fills.CHAPTER.test('A fill of 1024 by 511 leaves one row, whatever the drawing area is.',
+                    marks=marks(['large size'], FILL))
 def nearly_all(t: Draft) -> None:
     small_area(t)
     t.packet(fills.fill_words(0, 0, 0x3FF, 511))
     t.box(0, 0, 1024, 511, fills.CELL)
 
 
-@copies.CHAPTER.test('A copy of more than 512 columns and of more than 256 rows moves all of its cells.', worked=FORMULA,
+@copies.CHAPTER.test('A copy of more than 512 columns and of more than 256 rows moves all of its cells.',
+                     worked=FORMULA,
                      marks=marks(['large size'], COPY))
 def more_than_half(t: Draft) -> None:
     row, column = numbers(600), numbers(300)
@@ -183,7 +191,8 @@ def more_than_half(t: Draft) -> None:
         t.cell(1010, 90 + y, column[y])
 
 
-@loads.CHAPTER.test('A load of more than 512 columns and one of more than 256 rows move all of their cells.', worked=FORMULA,
+@loads.CHAPTER.test('A load of more than 512 columns and one of more than 256 rows move all of their cells.',
+                    worked=FORMULA,
                     marks=marks(['large size'], *LOADS))
 def many_cells(t: Draft) -> None:
     for x, y, width, height in ((100, 0, 600, 5), (1000, 100, 5, 300)):
