@@ -5,14 +5,18 @@
 
 It gives psxgpu_tool the same capture with bit 9 of each E1h cleared.
 """
+import os
 import subprocess
 import sys
 
-from psxgpu.capture import Capture
-from psxgpu.packets.grammar import ENVIRONMENT
-from psxgpu.players import player
-from psxgpu.players.steps import Cutter
-from psxgpu.stream import GP0, Stream
+# A checkout need not be installed.
+sys.path.append(os.path.dirname(os.path.dirname(os.path.abspath(__file__))))
+
+from psxgpu.capture import Capture  # noqa: E402
+from psxgpu.packets.grammar import ENVIRONMENT  # noqa: E402
+from psxgpu.players import player  # noqa: E402
+from psxgpu.players.steps import Cutter  # noqa: E402
+from psxgpu.stream import GP0, Stream  # noqa: E402
 
 DITHER = 1 << 9
 

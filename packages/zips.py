@@ -26,7 +26,8 @@ COMMON = {
     '': ['*.md', 'LICENSE-MIT', 'LICENSE-APACHE', 'web/viewer.html'],
     'docs': ['docs/*'],
     'bench': ['bench/*.md', 'bench/*.py'],
-    'examples': ['examples/*.capture', 'examples/*.capture.gz', 'examples/*.png', 'examples/*.txt'],
+    'examples': ['examples/*.capture', 'examples/*.capture.gz', 'examples/*.png', 'examples/*.txt', 'examples/player.*',
+                 'examples/toy_gpu.*'],
     'c': ['c/psxgpu.h', 'c/example.c', 'recorder/psxgpu_capture.h'],
     'selftest': ['psxgpu/selftest/*'],
 }

@@ -1,4 +1,4 @@
-"""Runs the tools of this project: psxgpu NAME .. (in a checkout: python3 -m psxgpu NAME ..).
+"""Runs the tools of this project: psxgpu NAME .. (in a checkout: bin/psxgpu NAME ..).
 
 `psxgpu NAME --help` explains the arguments of a tool, `psxgpu --version` prints the version.
 Status: 0 equal, or done; 1 different, or something to look at; 2 an error, with one line on standard error.
@@ -13,8 +13,9 @@ from typing import List, Optional
 
 from psxgpu import __version__, command
 
-TOOLS = ('corpus', 'packets', 'check', 'first', 'join', 'mend', 'from-log', 'from-dump', 'to-dump', 'to-exe', 'picture',
-         'film', 'textures', 'heat', 'compare', 'bisect', 'agree', 'audit', 'reduce', 'conform', 'selftest')
+TOOLS = ('corpus', 'packets', 'check', 'first', 'trim', 'join', 'mend', 'from-log', 'from-dump', 'to-dump', 'to-exe',
+         'picture', 'film', 'textures', 'heat', 'diff', 'compare', 'bisect', 'agree', 'audit', 'reduce', 'conform',
+         'selftest')
 
 
 def module_of(name: str) -> ModuleType:

@@ -1,6 +1,8 @@
-/* psxgpu_capture.h: records what reaches a PlayStation's GPU, as a capture for psxgpu_tool. One header for C99 and
-   C++17, no dependencies, no globals. docs/RECORDING.md says where an emulator calls it, docs/CAPTURE.md has the
-   format.
+/* psxgpu_capture.h: records what reaches a PlayStation's GPU, as a capture for psxgpu_tool, and reads captures. One
+   header for C99 and C++17, no dependencies, no globals. docs/RECORDING.md says where an emulator calls the first half,
+   docs/PLAYER.md what a player does with the second; docs/CAPTURE.md has the format.
+
+   To record:
 
        static psxgpu_capture cap;                      64 KB, so not on a stack; if it is all 0, nothing is open
 
@@ -25,7 +27,18 @@
    To record DMA itself, and main memory as it was, call this before the transfer is done, and then neither gp0 nor read
    for its words:
 
-       psxgpu_capture_dma(&cap, channel, madr, bcr, chcr, ram); */
+       psxgpu_capture_dma(&cap, channel, madr, bcr, chcr, ram);
+
+   To read a capture:
+
+       psxgpu_reader in;
+
+       psxgpu_reader_load(&in, stdin);                 reads all bytes; 0, or an error number of errno.h
+       while (psxgpu_reader_next(&in))                 each record up to End, or up to a fault
+           if (in.kind == PSXGPU_GP0)                  its words, from the one after the tag on
+               for (k = 0; k < in.count; k++) gp0(psxgpu_reader_word(&in, k));
+       status = psxgpu_reader_status(&in, stderr);     0, or 2 after the line with which psxgpu_tool refuses the capture
+       psxgpu_reader_free(&in); */
 #ifndef PSXGPU_CAPTURE_H
 #define PSXGPU_CAPTURE_H
 #include <errno.h>
@@ -39,7 +52,8 @@
 #endif
 
 /* Kinds of records, and sizes. */
-enum { PSXGPU_RAM = 1, PSXGPU_GP0, PSXGPU_GP1, PSXGPU_READ, PSXGPU_STAT, PSXGPU_DMA, PSXGPU_SKIP = 9 };
+enum { PSXGPU_RAM = 1, PSXGPU_GP0, PSXGPU_GP1, PSXGPU_READ, PSXGPU_STAT, PSXGPU_DMA, PSXGPU_BEGIN, PSXGPU_TURN,
+       PSXGPU_SKIP = 9 };
 enum { PSXGPU_ROOM = 65536, PSXGPU_MOST_READS = 262144, PSXGPU_RAM_WORDS = 524288 };
 
 typedef struct psxgpu_capture {
@@ -71,7 +85,7 @@ static inline size_t psxgpu_length_(uint32_t tag) {
     case PSXGPU_RAM: return 2 + (tag & 0xFFFFFF);
     case PSXGPU_GP0: return 1 + (tag & 0xFFFFFF);
     case PSXGPU_GP1: return 2;
-    case PSXGPU_DMA: return 4;
+    case PSXGPU_DMA: case PSXGPU_BEGIN: return 4;
     default: return 1;
     }
 }
@@ -320,5 +334,170 @@ static inline int psxgpu_capture_dma(psxgpu_capture *c, uint32_t channel, uint32
     psxgpu_add_(c, bcr);
     psxgpu_add_(c, chcr);
     return 0;
+}
+
+/* The reader's half. */
+
+typedef struct psxgpu_reader {
+    const unsigned char *bytes; /* the capture */
+    size_t size;                /* in bytes */
+    unsigned char *owned;       /* the same bytes after `load`; NULL after `begin` */
+    uint32_t version;           /* 1 to 3; 0 before the first record */
+    uint64_t events;            /* events of the records before this one */
+    uint32_t kind, count;       /* of the record, as its tag has them: count is the channel of DMA and BEGIN */
+    size_t words;               /* the offset of the word after the tag */
+    size_t at;                  /* the offset of the next tag */
+    int ended;                  /* 1 after End or a fault */
+    const char *fault;          /* the name of the refusal; NULL if there is none */
+    size_t fault_byte;
+    uint32_t fault_word;        /* of the refusal bad-record */
+} psxgpu_reader;
+
+/* Begins to read `size` bytes that the caller keeps until the end. */
+static inline void psxgpu_reader_begin(psxgpu_reader *r, const void *bytes, size_t size) {
+    memset(r, 0, sizeof *r);
+    r->bytes = (const unsigned char *)bytes;
+    r->size = size;
+}
+
+/* Reads all bytes of a file, up to the length that a player accepts. Returns 0, or an error number of errno.h. A read
+   that a signal interrupts continues. On Windows the file has to be binary. */
+static inline int psxgpu_reader_load(psxgpu_reader *r, FILE *file) {
+    unsigned char *bytes = NULL, *more;
+    size_t size = 0, room = 0;
+    int error = 0;
+    for (;;) {
+        if (size == room) {
+            more = (unsigned char *)realloc(bytes, room = room ? 2 * room : (size_t)PSXGPU_ROOM);
+            if (!more) error = ENOMEM;
+            else bytes = more;
+        }
+        if (error || size >= PSXGPU_CAPTURE_MOST) break;
+        errno = 0;
+        size += fread(bytes + size, 1, room - size, file);
+        if (size == room) continue;
+        if (feof(file)) break;
+        if (ferror(file) && errno != EINTR) error = psxgpu_errno_();
+        clearerr(file);
+    }
+    psxgpu_reader_begin(r, bytes, size);
+    r->owned = bytes;
+    return error;
+}
+
+static inline void psxgpu_reader_free(psxgpu_reader *r) {
+    free(r->owned);
+    psxgpu_reader_begin(r, NULL, 0);
+    r->ended = 1;
+}
+
+/* Returns word k after the tag of the record. Word 0 of PSXGPU_RAM is the address of its words; the words of PSXGPU_DMA
+   and PSXGPU_BEGIN are MADR, BCR and CHCR. */
+static inline uint32_t psxgpu_reader_word(const psxgpu_reader *r, size_t k) {
+    return psxgpu_get_(r->bytes + r->words + 4 * k);
+}
+
+/* Returns the number of events of the record. */
+static inline uint32_t psxgpu_reader_events(const psxgpu_reader *r) {
+    switch (r->kind) {
+    case 0: return 0;
+    case PSXGPU_GP1: case PSXGPU_STAT: case PSXGPU_DMA: case PSXGPU_BEGIN: return 1;
+    default: return r->count;
+    }
+}
+
+static inline int psxgpu_fault_(psxgpu_reader *r, const char *fault, size_t byte, uint32_t word) {
+    r->ended = 1;
+    r->fault = fault;
+    r->fault_byte = byte;
+    r->fault_word = word;
+    return 0;
+}
+
+/* Takes `count` words. If the capture is cut before or too long, takes those that are there and returns 0. */
+static inline int psxgpu_take_(psxgpu_reader *r, size_t count) {
+    const size_t most = r->size < PSXGPU_CAPTURE_MOST ? r->size : PSXGPU_CAPTURE_MOST;
+    const size_t there = (most - r->at) / 4;
+    r->at += 4 * (there < count ? there : count);
+    if (there >= count) return 1;
+    if (r->at >= PSXGPU_CAPTURE_MOST) return psxgpu_fault_(r, "too-long", r->at, 0);
+    return psxgpu_fault_(r, "truncated", r->size, 0);
+}
+
+/* Takes the first eight bytes: the version. */
+static inline int psxgpu_head_(psxgpu_reader *r) {
+    static const char head[] = "PSXGPUC";
+    size_t same = 0;
+    if (r->size < 8) return psxgpu_fault_(r, "truncated", r->size, 0);
+    while (same < 7 && r->bytes[same] == (unsigned char)head[same]) same++;
+    if (same < 7 || r->bytes[7] < '1' || r->bytes[7] > '3') return psxgpu_fault_(r, "not-capture", same, 0);
+    r->version = (uint32_t)(r->bytes[7] - '0');
+    r->at = 8;
+    return 1;
+}
+
+/* Returns whether a capture of this version may have a record of this kind and count. */
+static inline int psxgpu_allowed_(uint32_t version, uint32_t kind, uint32_t count) {
+    if (kind > (version == 1 ? (uint32_t)PSXGPU_DMA : (uint32_t)PSXGPU_SKIP)) return 0;
+    switch (kind) {
+    case 0: return count == 0;
+    case PSXGPU_RAM: return count >= 1 && count <= PSXGPU_RAM_WORDS;
+    case PSXGPU_GP0: return count >= 1;
+    case PSXGPU_GP1: case PSXGPU_STAT: return count == 1;
+    case PSXGPU_DMA: return count == 2 || count == 6;
+    case PSXGPU_BEGIN: return count == 2;
+    default: return count >= 1 && count <= PSXGPU_MOST_READS;
+    }
+}
+
+/* Takes the words of a record of main memory or of GP0. If the file ends in them, the record has those that are there;
+   the next call finds the fault. */
+static inline int psxgpu_some_(psxgpu_reader *r) {
+    const size_t first = r->at;
+    if (psxgpu_take_(r, r->count)) return 1;
+    r->count = (uint32_t)((r->at - first) / 4);
+    if (!r->count) return 0;
+    r->ended = 0;
+    r->fault = NULL;
+    return 1;
+}
+
+/* Takes the next record. Returns 0 after End, and at the first fault of the file. What comes before the fault is given
+   first: `events` is the number of events before it. */
+static inline int psxgpu_reader_next(psxgpu_reader *r) {
+    uint32_t tag, address;
+    size_t start;
+    if (r->ended) return 0;
+    r->events += psxgpu_reader_events(r);
+    r->kind = 0;
+    if (!r->version && !psxgpu_head_(r)) return 0;
+    start = r->at;
+    if (!psxgpu_take_(r, 1)) return 0;
+    tag = psxgpu_get_(r->bytes + start);
+    if (!psxgpu_allowed_(r->version, tag >> 24, tag & 0xFFFFFF)) return psxgpu_fault_(r, "bad-record", start, tag);
+    r->count = tag & 0xFFFFFF;
+    r->words = r->at;
+    r->ended = !(tag >> 24);
+    if (tag >> 24 == PSXGPU_RAM) {
+        if (!psxgpu_take_(r, 1)) return 0;
+        address = psxgpu_get_(r->bytes + r->words);
+        if (address % 4 || address > 0x200000 || address + 4 * r->count > 0x200000)
+            return psxgpu_fault_(r, "bad-record", r->words, address);
+    }
+    if (tag >> 24 == PSXGPU_RAM || tag >> 24 == PSXGPU_GP0) {
+        if (!psxgpu_some_(r)) return 0;
+    } else if (!psxgpu_take_(r, psxgpu_length_(tag) - 1)) return 0;
+    r->kind = tag >> 24;
+    return !r->ended;
+}
+
+/* Returns the status of a player of the capture: 0, or 2 if it has a fault. Then writes the player's line to `file`. */
+static inline int psxgpu_reader_status(const psxgpu_reader *r, FILE *file) {
+    if (!r->fault) return 0;
+    fprintf(file, "psxgpu: %s at event %llu byte %llu", r->fault, (unsigned long long)(r->events + 1),
+            (unsigned long long)r->fault_byte);
+    if (!strcmp(r->fault, "bad-record")) fprintf(file, " word %08lx", (unsigned long)r->fault_word);
+    fprintf(file, "\n");
+    return 2;
 }
 #endif

@@ -34,6 +34,14 @@ def needs(*programs):
     return set_up_module
 
 
+def needs_built(path, goal):
+    """Returns a `setUpModule` that skips the module's tests if a file that `make GOAL` builds is missing."""
+    def set_up_module():
+        if not os.path.exists(path):
+            raise unittest.SkipTest('no %s: make %s' % (os.path.relpath(path, TOP), goal))
+    return set_up_module
+
+
 def example(name):
     return os.path.join(EXAMPLES, name + '.capture')
 

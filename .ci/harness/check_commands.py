@@ -54,16 +54,12 @@ def stand_in(folder, player):
     for name in filter(in_root, ('examples', 'psxgpu', 'docs', 'bench')):
         shutil.copytree(os.path.join(ROOT, name), os.path.join(folder, name),
                         ignore=shutil.ignore_patterns('__pycache__'))
-    for name in filter(in_root, ('crates', 'systems', 'Makefile', 'README.md')):
+    for name in filter(in_root, ('crates', 'recorder', 'systems', 'Makefile', 'README.md')):
         os.symlink(os.path.join(ROOT, name), os.path.join(folder, name))
     os.mkdir(os.path.join(folder, 'bin'))
     os.symlink(os.path.abspath(player), os.path.join(folder, 'bin', 'psxgpu_tool'))
-    if not in_root('psxgpu'):
-        return                  # the package is installed
-    tools = os.path.join(folder, 'bin', 'psxgpu')
-    with open(tools, 'w') as file:
-        file.write('#!/bin/sh\nPYTHONPATH="%s" exec python3 -B -m psxgpu "$@"\n' % folder)
-    os.chmod(tools, 0o755)
+    if in_root('bin'):          # else the package is installed
+        shutil.copy(os.path.join(ROOT, 'bin', 'psxgpu'), os.path.join(folder, 'bin'))
 
 
 def run_command(folder, command):

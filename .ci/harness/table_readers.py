@@ -107,9 +107,16 @@ def c_constants(path: str, prefix: str) -> Table:
     return found
 
 
-def c_lengths() -> Table:
-    """Returns what `packet_words` of the recorder gives for each opcode."""
-    return numbered(map(int, c_lines('recorder/ports.h', 256, 'printf("%u\\n", (unsigned)packet_words(k << 24));')))
+def c_lengths(path: str, function: str) -> Table:
+    """Returns what a function of C gives for the first word of a packet of each opcode."""
+    return numbered(map(int, c_lines(path, 256, 'printf("%%u\\n", (unsigned)%s(k << 24));' % function)))
+
+
+def c_tags(path: str, function: str) -> Table:
+    """Returns for each of TAGS whether a function of C takes it: its arguments are version, kind and count."""
+    version, tag = ('(const unsigned[]){%s}[k]' % ', '.join(map(str, column)) for column in zip(*TAGS))
+    put = 'printf("%%d\\n", %s(%s, %s >> 24, %s & 0xFFFFFF));' % (function, version, tag, tag)
+    return dict(zip(TAGS, (line == '1' for line in c_lines(path, len(TAGS), put))))
 
 
 def c_lines(path: str, count: int, put: str) -> List[str]:

@@ -18,17 +18,19 @@ import importlib
 import sys
 from typing import Callable, Iterator, List, NamedTuple, Sequence, Tuple
 
-from table_readers import (TAGS, Absent, Reader, Table, c_constants, c_lengths, document_kinds,
+from table_readers import (TAGS, Absent, Reader, Table, c_constants, c_lengths, c_tags, document_kinds,
                            js_constants, js_value, numbered, program_lengths, program_tags, rattle_codes, rattle_kinds,
                            rattle_modes, scripts)
 
 
+from examples import toy_gpu
 from suite_trials.model.packets import Packets
 from psxgpu import records
 from psxgpu.machine import MODES
 from psxgpu.packets.grammar import TABLE
 
 HEADER, RECORDER, MODE = 'c/psxgpu.h', 'recorder/psxgpu_capture.h', 'MODE_'
+TOY = 'examples/toy_gpu'            # of the skeletons of a player
 NEVER = ('END', 'READ_FAULT')       # causes that no call returns: the header does not name them
 
 
@@ -51,7 +53,9 @@ def length_copies() -> List[Copy]:
     return [Copy('psxgpu/packets/split.py', lambda: numbered(length for _, length in TABLE)),
             Copy('suite_trials/model/packets.py', lambda: {k: Packets.length(Packets(), k << 24) for k in range(256)}),
             *in_scripts('const LENGTHS =', lambda path: numbered(js_value(path, 'LENGTHS', 'Array.from(LENGTHS)'))),
-            Copy('recorder/ports.h', c_lengths)]
+            Copy('recorder/ports.h', lambda: c_lengths('recorder/ports.h', 'packet_words')),
+            Copy(TOY + '.h', lambda: c_lengths(TOY + '.h', 'length_of')),
+            Copy(TOY + '.py', lambda: {k: toy_gpu.length_of(k << 24) for k in range(256)})]
 
 
 def tag_copies() -> List[Copy]:
@@ -62,6 +66,7 @@ def tag_copies() -> List[Copy]:
         return dict(zip(TAGS, js_value(path, 'KIND,isAllowed', each)))
     return [Copy('psxgpu/records.py', lambda: {
                 (version, tag): records.is_allowed(version, tag >> 24, tag & 0xFFFFFF) for version, tag in TAGS}),
+            Copy(RECORDER, lambda: c_tags(RECORDER, 'psxgpu_allowed_')),
             *in_scripts('function isAllowed(', viewer)]
 
 

@@ -1,17 +1,22 @@
 """Runs the conformance suite on a player: one test for each rule of the GPU.
 
-    psxgpu conform 'my_emulator --headless vram'        a table by chapter, and a line for each test not passed
+    psxgpu conform 'my_emulator --headless vram'        the rule, the packets and both values of each test that did
+                                                        not pass, and a table by chapter
     psxgpu conform psxgpu_tool --page page.html --junit results.xml
     psxgpu conform psxgpu_tool --only fills --only copies/overlap-right
+    psxgpu conform my_emulator --keep-expected known.json       the tests that it does not pass today
+    psxgpu conform my_emulator --expect known.json              status 0 if no other test fails
     psxgpu conform --list
     psxgpu conform --write FOLDER                       the tests as files: captures, dumps, programs for the console
 
 PLAYER is a shell command that reads a capture on standard input. The mode replaces the word `vram` in it, or is added
 at the end. `vram` writes a dump of video memory, `play` prints each word that is read and each status, and `shot`
-writes the displayed picture. The suite first finds what the player does not support (`play`, `shot`, DMA, turns, the
-tall profile). Tests that need it are not taken. docs/CONFORMANCE.md has the details.
+writes the displayed picture (docs/PLAYER.md). The suite first finds what the player does not support (`play`, `shot`,
+DMA, turns, the tall profile). Tests that need it are not taken; a line has the reason. docs/CONFORMANCE.md has the
+details.
 
-Status: 0 no test failed, 1 some did (with --strict also if a rule of this project decides), 2 an error.
+Status: 0 no test failed, 1 some did (with --strict also if a rule of this project decides), 2 an error. With --expect,
+tests that end as FILE has it do not count. A test that was taken and is not taken now counts as failed.
 """
 from __future__ import annotations
 
@@ -24,12 +29,13 @@ from typing import List
 
 from psxgpu import progress
 from psxgpu.command import DIFFERENT, SAME, TROUBLE, ToolError, decimal, write_whole
-from psxgpu.conformance import folder, judging, reducing, report
+from psxgpu.conformance import expected, folder, judging, reducing, report
 from psxgpu.conformance.chapters import CHAPTERS
 from psxgpu.conformance.judging import Judge, Verdict
 from psxgpu.conformance.page import page
 from psxgpu.conformance.released import SUITE, WITHDRAWN
 from psxgpu.conformance.suite import Test
+from psxgpu.output import refuse_inputs
 from psxgpu.players import player
 from psxgpu.players.named import Player, expect_dump, player_of
 from psxgpu.stream import HEADS
@@ -42,6 +48,8 @@ def arguments(parser: argparse.ArgumentParser) -> None:
     parser.add_argument('--page', metavar='FILE', help='write a page with pictures: theirs, ours, the difference')
     parser.add_argument('--junit', metavar='FILE', help='write JUnit XML')
     parser.add_argument('--json', metavar='FILE', help='write the verdicts')
+    parser.add_argument('--expect', metavar='FILE', help='known failures: only another one fails the run')
+    parser.add_argument('--keep-expected', metavar='FILE', help='write the tests that do not pass now, for --expect')
     parser.add_argument('--reduce', metavar='FOLDER', help='write the smallest capture that still shows each failure')
     parser.add_argument('--write', metavar='FOLDER', help='write the tests as files, and what they expect')
     parser.add_argument('--exe', action='store_true', help='with --write: also programs for the console')
@@ -89,35 +97,57 @@ def run_tests(tests: List[Test], tested: Player, jobs: int, seconds: int) -> Lis
     return verdicts
 
 
-def status_of(verdicts: List[Verdict], strict: bool) -> int:
-    """Returns the status of the command."""
-    kinds = {verdict.kind for verdict in verdicts}
+def status_of(verdicts: List[Verdict], news: List[Verdict], words: argparse.Namespace) -> int:
+    """Returns the status of the command. `news`: the verdicts that count: all that did not pass, or those not known."""
+    kinds = {verdict.kind for verdict in news}
     if judging.TROUBLE in kinds:
         return TROUBLE
-    if judging.FAILED in kinds or strict and judging.DIFFERS in kinds or judging.PASSED not in kinds:
+    if words.expect and judging.NOT_TAKEN in kinds or all(verdict.kind != judging.PASSED for verdict in verdicts):
         return DIFFERENT
-    return SAME
+    return DIFFERENT if judging.FAILED in kinds or words.strict and judging.DIFFERS in kinds else SAME
+
+
+def show(verdicts: List[Verdict], words: argparse.Namespace, known: expected.Known) -> int:
+    """Prints what is found, the table last. Returns the status."""
+    comparison = expected.Comparison(verdicts, known)
+    if not words.quiet:
+        lines = report.lines(comparison.news) + report.not_taken(comparison.news)
+        print(''.join(line + '\n' for line in lines + (comparison.lines() if words.expect else [])), end='')
+    print(report.table(verdicts))
+    return status_of(verdicts, comparison.news, words)
+
+
+def check_outputs(words: argparse.Namespace) -> None:
+    """Raises ToolError if an output is the file of known failures, before anything is run."""
+    for path in (words.page, words.junit, words.json, words.keep_expected):
+        if path and words.expect:
+            refuse_inputs(path, [words.expect])
+
+
+def write_files(verdicts: List[Verdict], words: argparse.Namespace, seconds: float) -> None:
+    """Writes the files that are asked for."""
+    title = os.path.basename(words.tested)
+    for path, text in ((words.page, page(verdicts, title)), (words.junit, report.junit(verdicts, seconds)),
+                       (words.json, report.as_json(verdicts)), (words.keep_expected, expected.kept(verdicts))):
+        if path:
+            write_whole(path, text.encode(), [words.expect] if words.expect else [], is_text=True)
 
 
 def test_player(words: argparse.Namespace, tests: List[Test]) -> int:
     """Runs the tests, and prints and writes what is found. Returns the status."""
+    check_outputs(words)
     tested = player_of(words.tested, appends=True)
+    known = expected.read_known(words.expect) if words.expect else {}
     start = time.monotonic()
     verdicts = run_tests(tests, tested, words.jobs, words.seconds)
     seconds = time.monotonic() - start
-    print(report.table(verdicts))
+    status = show(verdicts, words, known)
     if sys.stderr.isatty():
         print('%d tests in %.1f seconds' % (len(verdicts), seconds), file=sys.stderr)
-    if not words.quiet:
-        print(''.join(line + '\n' for line in report.lines(verdicts)), end='')
-    title = os.path.basename(words.tested)
-    for path, text in ((words.page, page(verdicts, title)), (words.junit, report.junit(verdicts, seconds)),
-                       (words.json, report.as_json(verdicts))):
-        if path:
-            write_whole(path, text.encode(), is_text=True)
+    write_files(verdicts, words, seconds)
     if words.reduce:
         print('\n'.join(reducing.reduce_all(verdicts, tested, words.reduce, words.player)))
-    return status_of(verdicts, words.strict)
+    return status
 
 
 def run(words: argparse.Namespace) -> int:

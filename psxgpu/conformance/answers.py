@@ -1,7 +1,7 @@
 """What a player is asked, and what it answers."""
 from __future__ import annotations
 
-from typing import Dict, FrozenSet, List, Tuple
+from typing import Dict, List, Tuple
 
 from psxgpu.capture import Capture, display_mode, horizontal_range, vertical_range
 from psxgpu.conformance.draft import HEIGHT, Picture
@@ -52,23 +52,24 @@ def picture_of(out: bytes) -> Picture:
     return Picture(width, height, pixels)
 
 
-def is_whole(mode: str, out: bytes, is_tall: bool) -> bool:
-    """Returns whether this is what a mode writes for one of the probes."""
+def lack(mode: str, done: Done, is_tall: bool) -> str:
+    """Returns why a run is no answer to one of the probes, or an empty text."""
+    if done.status != 0:
+        return ending(done)
     try:
         if mode == 'play':
-            return len(read_words(out)) == 1
+            count = len(read_words(done.out))
+            return '' if count == 1 else '%d words for one read of the status' % count
         if mode == 'shot':
-            return picture_of(out).width > 0
-    except NoAnswer:
-        return False
-    return len(out) == 2 * WIDTH * HEIGHT * (2 if is_tall else 1)
+            return '' if picture_of(done.out).width > 0 else 'a picture without width'
+    except NoAnswer as error:
+        return str(error)
+    size = 2 * WIDTH * HEIGHT * (2 if is_tall else 1)
+    return '' if len(done.out) == size else '%d bytes, expected %d' % (len(done.out), size)
 
 
-def abilities(player: Player, seconds: float) -> FrozenSet[str]:
-    """Returns what a player takes. Each is asked once, by a capture that does nothing."""
-    able = set()
-    for name, (mode, capture) in PROBES.items():
-        done = player.run(mode, capture.bytes(), seconds)
-        if done.status == 0 and is_whole(mode, done.out, capture.version == 3):
-            able.add(name)
-    return frozenset(able)
+def lacks(player: Player, seconds: float) -> Dict[str, str]:
+    """Returns for each of the probes why the player does not take it, or an empty text. Each is asked once, by a
+    capture that does nothing."""
+    return {name: lack(mode, player.run(mode, capture.bytes(), seconds), capture.version == 3)
+            for name, (mode, capture) in PROBES.items()}

@@ -48,8 +48,8 @@ class Picture:
 class Draft:
     """A test that is being written. Cells that it does not mention have to be 0000h.
 
-    `subject`: the words that the test is about. `ignored`: cells whose value does not matter. `looked_at`: the box
-    that a page shows; without it, the cells that are expected."""
+    `subject`: the words that the test is about; `about`: the numbers of their records, from 0. `ignored`: cells whose
+    value does not matter. `looked_at`: the box that a page shows; without it, the cells that are expected."""
 
     def __init__(self, version: int = 1, rows: int = HEIGHT) -> None:
         self.capture = Capture(version)
@@ -57,6 +57,7 @@ class Draft:
         self.cells: Dict[Place, int] = {}
         self.words: List[Expected] = []
         self.subject: List[int] = []
+        self.about: Set[int] = set()
         self.picture: Optional[Picture] = None
         self.wants_no_picture = False
         self.looked_at: Optional[Box] = None
@@ -70,8 +71,10 @@ class Draft:
 
     def packet(self, *packets: Words) -> None:
         """Adds words that the test is about. A failure shows them."""
+        first = len(self.capture.records)
         self.subject += flat(packets)
         self.capture.gp0(*packets)
+        self.about.update(range(first, len(self.capture.records)))
 
     def open(self, x1: int = 0, y1: int = 0, x2: int = WIDTH - 1, y2: int = HEIGHT - 1) -> None:
         """Sets the drawing area: all of video memory unless corners are given."""

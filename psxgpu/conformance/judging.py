@@ -4,11 +4,13 @@ from __future__ import annotations
 from dataclasses import dataclass, field
 from typing import FrozenSet, List, Optional
 
-from psxgpu.conformance.answers import SECONDS, NoAnswer, abilities, answer, picture_of, read_words
+from psxgpu.conformance.answers import SECONDS, NoAnswer, answer, lacks, picture_of, read_words
 from psxgpu.conformance.suite import PSX_SPX, WIDTH, Picture, Place, Test
 from psxgpu.players.named import Player
 
 PASSED, FAILED, DIFFERS, NOT_TAKEN, TROUBLE = KINDS = ('passed', 'failed', 'differs', 'not taken', 'error')
+
+MOST_BITS = 4               # of a word, that are named
 
 
 @dataclass
@@ -28,13 +30,14 @@ class Judge:
 
     def __init__(self, player: Player, seconds: float = SECONDS) -> None:
         self.player, self.seconds = player, seconds
-        self.able = abilities(player, seconds)
+        self.lacks = lacks(player, seconds)         # why the player does not take something, or an empty text
+        self.able = frozenset(name for name, why in self.lacks.items() if not why)
 
     def judge(self, test: Test) -> Verdict:
         """Runs a test."""
         missing = needs_of(test) - self.able
         if missing:
-            return Verdict(test, NOT_TAKEN, 'no ' + ', '.join(sorted(missing)))
+            return Verdict(test, NOT_TAKEN, '; '.join('no %s: %s' % (it, self.lacks[it]) for it in sorted(missing)))
         try:
             verdict = self.cells(test)
             reasons = [verdict.reason, self.words(test), self.picture(verdict)]
@@ -54,8 +57,9 @@ class Judge:
         if not places:
             return Verdict(test, PASSED)
         x, y = places[0]
-        reason = '%d cell%s, the first at (%d, %d): %04x, expected %04x' % (
-            len(places), 's' * (len(places) > 1), x, y, cell_of(dump, x, y), cell_of(test.dump, x, y))
+        mine, wanted = (cell_text(cell_of(one, x, y)) for one in (dump, test.dump))
+        reason = '%d cell%s, the first at (%d, %d): yours %s, expected %s' % (
+            len(places), 's' * (len(places) > 1), x, y, mine, wanted)
         return Verdict(test, PASSED, reason, dump, places)
 
     def words(self, test: Test) -> str:
@@ -67,7 +71,8 @@ class Judge:
             raise NoAnswer('play: %d words, expected %d' % (len(words), len(test.draft.words)))
         for at, (word, expected) in enumerate(zip(words, test.draft.words), 1):
             if not expected.agrees(word):
-                return 'word %d of %d: %08x, expected %s' % (at, len(words), word, expected)
+                return 'word %d of %d: yours %08x, expected %s%s' % (
+                    at, len(words), word, expected, bits_text((word ^ expected.word) & expected.mask))
         return ''
 
     def picture(self, verdict: Verdict) -> str:
@@ -76,7 +81,7 @@ class Judge:
         wanted = test.draft.picture
         if test.draft.wants_no_picture:
             done = self.player.run('shot', test.data, self.seconds)
-            return 'a picture, expected none' if done.status == 0 else ''
+            return 'a picture, and none is expected' if done.status == 0 else ''
         if wanted is None:
             return ''
         shown = picture_of(answer(self.player, 'shot', test.data, self.seconds))
@@ -84,9 +89,12 @@ class Judge:
             return ''
         verdict.shown = shown
         if (shown.width, shown.height) != (wanted.width, wanted.height):
-            return 'a picture of %d by %d, expected %d by %d' % (shown.width, shown.height, wanted.width, wanted.height)
-        at = next(at for at, pair in enumerate(zip(shown.pixels, wanted.pixels)) if pair[0] != pair[1])
-        return 'byte %d of the picture: %d, expected %d' % (at, shown.pixels[at], wanted.pixels[at])
+            return 'the picture: yours %d by %d, expected %d by %d' % (
+                shown.width, shown.height, wanted.width, wanted.height)
+        at = next(at for at, pair in enumerate(zip(shown.pixels, wanted.pixels)) if pair[0] != pair[1]) // 3
+        mine, expected = (' '.join(map(str, one.pixels[3 * at:3 * at + 3])) for one in (shown, wanted))
+        x, y = at % shown.width, at // shown.width
+        return 'pixel (%d, %d) of the picture: yours %s, expected %s' % (x, y, mine, expected)
 
 
 def needs_of(test: Test) -> FrozenSet[str]:
@@ -97,6 +105,19 @@ def needs_of(test: Test) -> FrozenSet[str]:
     if draft.picture or draft.wants_no_picture:
         needs.add('shot')
     return frozenset(needs)
+
+
+def cell_text(cell: int) -> str:
+    """Returns a cell and, in brackets, its channels red, green, blue and bit 15 if it is 1."""
+    return '%04x (%d %d %d%s)' % (cell, cell & 31, cell >> 5 & 31, cell >> 10 & 31, ', bit 15' if cell >> 15 else '')
+
+
+def bits_text(bits: int) -> str:
+    """Returns which bits differ, if they are few."""
+    found = [at for at in range(32) if bits >> at & 1]
+    if len(found) > MOST_BITS:
+        return ''
+    return ' (bit%s %s)' % ('s' * (len(found) > 1), ', '.join(map(str, found)))
 
 
 def cell_of(dump: bytes, x: int, y: int) -> int:

@@ -6,7 +6,8 @@ from html import escape
 from typing import Callable, Iterable, List, Sequence
 
 from psxgpu.conformance.judging import DIFFERS, FAILED, PASSED, TROUBLE, Verdict, cell_of
-from psxgpu.conformance.report import counts, packet_of
+from psxgpu.conformance.report import counts
+from psxgpu.conformance.subject import subject_lines
 from psxgpu.conformance.suite import WIDTH, Box, Picture, Place
 from psxgpu.image import Image, png
 from psxgpu.vram import wide
@@ -85,13 +86,14 @@ def pictures(verdict: Verdict) -> str:
 
 def section(verdict: Verdict) -> str:
     """Returns what the page has of a test."""
-    test, packet = verdict.test, packet_of(verdict)
+    test = verdict.test
+    packets = ''.join('<li><code>%s</code></li>' % escape(line) for line in subject_lines(test))
     paragraphs = [escape(test.says), 'psx-spx: %s. Decided by: %s. Expected values: by %s.' % (
         escape(test.section), test.decides, test.worked), escape(verdict.reason)]
     text = ''.join('<p>%s</p>' % one for one in paragraphs)
     return '<section id="%s"><h3><span class="%s">%s</span> %s</h3>%s%s%s%s</section>' % (
         escape(test.full_name), verdict.kind, verdict.kind, escape(test.full_name), text, cells(verdict),
-        pictures(verdict), '<p>packet: <code>%s</code></p>' % packet if packet else '')
+        pictures(verdict), '<ul>%s</ul>' % packets)
 
 
 def not_passed(verdicts: Iterable[Verdict]) -> List[Verdict]:

@@ -1,14 +1,16 @@
-"""What a run prints and writes: a table, a line for each test that did not pass, JUnit XML, and JSON."""
+"""What a run prints and writes: a table, some lines for each test that did not pass, JUnit XML, and JSON."""
 from __future__ import annotations
 
 import json
 from collections import Counter
 from typing import Dict, Iterable, List, Sequence
-from xml.sax.saxutils import quoteattr
+from xml.sax.saxutils import escape, quoteattr
 
 from psxgpu.conformance.judging import DIFFERS, FAILED, KINDS, NOT_TAKEN, PASSED, TROUBLE, Verdict
+from psxgpu.conformance.subject import subject_lines
 
-MOST_WORDS = 24             # of a packet
+INDENT = ' ' * 8            # of the lines below the name of a test
+MOST_COLUMNS = 112          # of such a line, if it can be broken
 ELEMENTS = {FAILED: 'failure', TROUBLE: 'error', DIFFERS: 'skipped', NOT_TAKEN: 'skipped'}      # of JUnit
 
 
@@ -35,30 +37,47 @@ def table(verdicts: Sequence[Verdict]) -> str:
     return '\n'.join([head, '|---|' + '---:|' * (len(KINDS) + 1), *rows])
 
 
-def packet_of(verdict: Verdict) -> str:
-    """Returns the words that a test is about, or the first of them."""
-    words = verdict.test.draft.subject
-    return ' '.join('%08x' % word for word in words[:MOST_WORDS]) + (' ..' if len(words) > MOST_WORDS else '')
+def broken(line: str) -> List[str]:
+    """Returns a line, or two if it is long: what a packet says comes in the second one."""
+    head, _, rest = line.partition(' | ')
+    return [head, '    ' + rest] if rest and len(line) > MOST_COLUMNS else [line]
+
+
+def details(verdict: Verdict) -> List[str]:
+    """Returns what a test is about, and how the player differs: what it has, and what is expected."""
+    return [part for line in subject_lines(verdict.test) for part in broken(line)] + verdict.reason.split('; ')
 
 
 def lines(verdicts: Iterable[Verdict]) -> List[str]:
-    """Returns two lines for each test that was taken and did not pass: how, and the packet."""
+    """Returns some lines for each test that was taken and did not pass: its rule, its packets, and both values."""
     out = []
     for verdict in verdicts:
         if verdict.kind not in (PASSED, NOT_TAKEN):
-            out.append('%-7s %s: %s' % (verdict.kind, verdict.test.full_name, verdict.reason))
-            packet = packet_of(verdict)
-            out += ['        packet: ' + packet] if packet else []
+            out.append('%-7s %s: %s' % (verdict.kind, verdict.test.full_name, verdict.test.says))
+            out += [INDENT + line for line in details(verdict)]
     return out
+
+
+def counted_kinds(verdicts: Iterable[Verdict]) -> List[str]:
+    """Returns how many tests ended in each way, as `3 failed`."""
+    number = Counter(verdict.kind for verdict in verdicts)
+    return ['%d %s' % (number[kind], kind) for kind in KINDS if number[kind]]
+
+
+def not_taken(verdicts: Iterable[Verdict]) -> List[str]:
+    """Returns a line for each reason for which tests are not taken: their number, and the reason."""
+    reasons = Counter(verdict.reason for verdict in verdicts if verdict.kind == NOT_TAKEN)
+    return ['not taken: %d test%s: %s' % (count, 's' * (count > 1), reason) for reason, count in reasons.items()]
 
 
 def junit_case(verdict: Verdict) -> str:
     """Returns a test as an element of JUnit."""
     element = ELEMENTS.get(verdict.kind)
     message = (verdict.kind + ': ' if element == 'skipped' else '') + verdict.reason
-    inside = '<%s message=%s/>' % (element, quoteattr(message)) if element else ''
+    text = [] if verdict.kind == NOT_TAKEN else [verdict.test.says, *details(verdict)]
+    inside = element and '<%s message=%s>%s</%s>' % (element, quoteattr(message), escape('\n'.join(text)), element)
     return '    <testcase classname=%s name=%s>%s</testcase>' % (
-        quoteattr(verdict.test.chapter), quoteattr(verdict.test.name), inside)
+        quoteattr(verdict.test.chapter), quoteattr(verdict.test.name), inside or '')
 
 
 def junit(verdicts: Sequence[Verdict], seconds: float) -> str:

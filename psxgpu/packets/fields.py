@@ -105,18 +105,19 @@ def rectangle_text(words: Sequence[int], registers: Registers) -> List[str]:
     return texts + settings_text(opcode, registers, False)
 
 
-def transfer_text(name: str, words: Sequence[int], registers: Registers) -> List[str]:
-    """Returns the fields of a copy, load or store."""
+def transfer_text(name: str, words: Sequence[int], registers: Registers, rows: int) -> List[str]:
+    """Returns the fields of a copy, load or store. `rows`: of video memory."""
     corners = ['source', 'target'] if name == COPY else ['target'] if name == LOAD else ['source']
-    texts = ['%s %s' % (corner, pair((word & 0x3FF, word >> 16 & 0x3FF))) for corner, word in zip(corners, words[1:])]
+    texts = ['%s %s' % (corner, pair((word & 0x3FF, word >> 16 & rows - 1)))
+             for corner, word in zip(corners, words[1:])]
     mask = ['mask setting %d' % (registers[0xE6] & 3)] if name != STORE and registers[0xE6] & 3 else []
     return [', '.join(texts + ['size %d by %d' % cells_of(words[-1])] + mask)]
 
 
-def fill_text(words: Sequence[int], _: Registers) -> List[str]:
-    """Returns the fields of a fill."""
+def fill_text(words: Sequence[int], rows: int) -> List[str]:
+    """Returns the fields of a fill. `rows`: of video memory."""
     x, y, w, h = fill_box(words)
-    return ['corner %s, size %d by %d' % (pair((x, y)), w, h),
+    return ['corner %s, size %d by %d' % (pair((x, y & rows - 1)), w, h),
             'colour ' + color_text(words[0])]
 
 
@@ -143,12 +144,14 @@ def setting_text(opcode: int, value: int) -> List[str]:
     return ['mask setting: %s' % (('none', 'bit 15 is set', 'cells with bit 15 are kept', 'set and kept')[value & 3])]
 
 
-TEXTS = {FILL: fill_text, POLYGON: polygon_text, LINE: line_text, RECTANGLE: rectangle_text,
-         ENVIRONMENT: environment_text}
+TEXTS = {POLYGON: polygon_text, LINE: line_text, RECTANGLE: rectangle_text, ENVIRONMENT: environment_text}
 
 
-def fields(name: str, words: Sequence[int], registers: Registers) -> List[str]:
-    """Returns the fields of a packet as lines. registers: the values of E1h to E6h after its words."""
+def fields(name: str, words: Sequence[int], registers: Registers, rows: int = 1024) -> List[str]:
+    """Returns the fields of a packet as lines. registers: the values of E1h to E6h after its words; rows: of video
+    memory."""
     if name in (COPY, LOAD, STORE):
-        return transfer_text(name, words, registers)
+        return transfer_text(name, words, registers, rows)
+    if name == FILL:
+        return fill_text(words, rows)
     return TEXTS[name](words, registers) if name in TEXTS else []

@@ -18,6 +18,7 @@ import unittest
 HERE = os.path.dirname(os.path.abspath(__file__))
 
 from tests.interruptions import interruptible, send_interrupted
+from tests import support
 from tests.library import support as program
 
 ROOT = os.path.dirname(os.path.dirname(HERE))
@@ -29,6 +30,7 @@ STRICT = ['-O2', '-Wall', '-Wextra', '-Wpedantic', '-Werror', '-I', HEADER]
 C, CPP = [CC, '-std=c99', *STRICT], [CXX, '-std=c++17', '-x', 'c++', *STRICT]
 SANITIZED = [] if RUN else ['-g', '-fsanitize=address,undefined', '-fno-sanitize-recover=all']
 ARCHIVE = os.path.join(OUT, 'libpsxgpu.a')
+setUpModule = support.needs_built(ARCHIVE, 'lib')
 SHARED = ['-L', OUT, '-lpsxgpu', '-Wl,-rpath,' + OUT]
 FAILING = ['-Wl,--wrap=malloc', '-Wl,--wrap=realloc', '-Wl,--wrap=free']
 

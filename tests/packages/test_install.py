@@ -51,6 +51,8 @@ class Made(support.InFolder):
         self.make('install')
         there = self.files()
         for name in ('bin/psxgpu', 'bin/psxgpu_tool', 'share/man/man1/psxgpu.1', 'share/psxgpu-tool/CONTRIBUTING.md',
+                     'share/psxgpu-tool/docs/PLAYER.md', 'share/psxgpu-tool/examples/player.c',
+                     'share/psxgpu-tool/examples/toy_gpu.h', 'share/psxgpu-tool/examples/player.py',
                      'share/psxgpu-tool/recorder/psxgpu_capture.h', 'share/psxgpu-tool/recorder/record'):
             self.assertIn('usr/local/' + name, there)
         self.assertFalse([name for name in there if '/tests/' in name or '__pycache__' in name])

@@ -24,7 +24,8 @@ ESCAPES = re.compile(rb'\x1b\[[?0-9;]*[A-Za-z]|\r')
 NAMES = ['日本語.capture', 'file with spaces.capture', 'Größe — é.capture', '\U0001F3AE.capture', "it's [1].capture"]
 AT_TERMINAL = ('vram two-fills.capture', 'plaj two-fills.capture', 'sums none.capture', 'sums 日本語.capture',
                'sums two-fills.capture', 'two-fills.capture', 'list two-fills.capture more')
-END, GP0, READ, STAT = 0, 2, 4, 5
+END, GP0, GP1, READ, STAT = 0, 2, 3, 4, 5
+LATER = 4096        # `slim` writes a record that many events later
 
 Result = Tuple[int, bytes, bytes]
 
@@ -129,6 +130,9 @@ class Same(unittest.TestCase):
         words = [record(GP0, 1, word) for word in fill + box]
         flat = b'PSXGPUC2' + b''.join(words[:3]), b''.join(words[3:])
         whole = self.same('cut', '6', data=head + first + second + stat + end)[1]
+        shown = head + first + record(GP1, 1, 0x03000000) + record(GP1, 1, 0x05000000)
+        frame, sums = (self.same(command, data=shown + end)[1] for command in ('frames', 'sums'))
+        line = sums.splitlines(keepends=True)[0]
         for command, talk in (
                 ('play', [(head + first + store + record(READ, 1), b'7fff7fff\n'), (stat, b'14802000\n'),
                           (end, b'status 14802000\n')]),
@@ -137,7 +141,11 @@ class Same(unittest.TestCase):
                 ('pixel 1 1', [(head + first, b'3 fill 02ffffff 0000 7fff\n'),
                                (record(GP0, 3, 0x02000000, *fill[1:]), b'6 fill 02000000 7fff 0000\n'), (end, b'')]),
                 ('flat', [(head + first, flat[0]), (second, flat[1]), (stat, stat), (end, end)]),
-                ('cut 6', [(head + first, b''), (second, whole[:-8]), (stat, stat), (end, end)])):
+                ('cut 6', [(head + first, b''), (second, whole[:-8]), (stat, stat), (end, end)]),
+                ('slim', [(head + first + stat * (LATER - 3), b''), (stat, head + words[0]), (stat, words[1]),
+                          (end, words[2] + stat * (LATER - 1) + end)]),
+                ('frames', [(shown, frame[:len(frame) // 2]), (end, frame[len(frame) // 2:])]),
+                ('sums', [(shown, line), (end, sums[len(line):])])):
             with self.subTest(command=command):
                 wanted = [answer for _, answer in talk]
                 self.assertEqual(answers(self.player, *command.split(), talk=talk), (wanted, 0))

@@ -22,6 +22,7 @@ int main(int argc, char **argv) {
 '''
 
 
+@unittest.skipUnless(os.path.exists(PROGRAM), 'not built: make windows')
 class Script(unittest.TestCase):
     def setUp(self):
         folder = tempfile.TemporaryDirectory()

@@ -13,6 +13,7 @@ WINDOWS = os.path.join(ROOT, 'systems', 'players', 'windows')
 QEMU = 'qemu-x86_64-static'
 
 
+@unittest.skipUnless(os.path.exists(os.path.join(ROOT, 'out', 'windows', 'psxgpu_tool.exe')), 'not built: make windows')
 class Windows(same_runs.Same):
     player = WINDOWS
 

@@ -22,6 +22,7 @@ MODES = ['play', 'vram', 'shot', 'list', 'report', 'frames', 'frames marks', 'su
 EXPORT = re.compile(r'(?m)^\s*\[ *\d+\] .*?(psxgpu_\w+)$')
 
 
+@unittest.skipUnless(os.path.exists(os.path.join(LIBRARY, 'psxgpu.dll')), 'not built: make windows')
 class Library(unittest.TestCase):
     def setUp(self) -> None:
         place = tempfile.TemporaryDirectory()

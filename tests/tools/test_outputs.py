@@ -21,7 +21,9 @@ WRITERS = {
     'first': (['2', 'IN', 'OUT'], CAPTURE),
     'join': (['IN', 'IN', '-o', 'OUT'], CAPTURE),
     'from-log': (['IN', 'OUT'], b'gp0 0\nstat\n'),
+    'trim': (['--frames', '1', 'IN', '-o', 'OUT'], CAPTURE),
     'picture': (['IN', 'OUT'], DUMP),
+    'picture -o': (['IN', '-o', 'OUT'], DUMP),
     'compare': (['IN', 'IN', 'OUT'], DUMP),
     'compare --side': (['IN', 'IN', '--side', 'OUT'], DUMP),
 }

@@ -1,9 +1,13 @@
-"""Pictures and dumps, read, drawn and compared."""
+"""Pictures, dumps and captures, read, drawn and compared."""
+import gzip
+import os
 import struct
+import subprocess
 import unittest
 import zlib
 
 from tests import support
+from psxgpu import capture as c
 from psxgpu.command import ToolError
 from psxgpu.difference import Difference, Grid, compared
 from psxgpu.image import SIGNATURE, Image, chunk, png, ppm, read_picture, read_png
@@ -130,3 +134,65 @@ class Compared(support.InFolder):
         image = read_png(self.read('s.png'))
         self.assertEqual((image.width, image.height, image.pixels), (3, 1, b'abcabd\xff\x20\x20'))
         self.assertEqual(read_png(self.read('d.png')).pixels, b'\xff\x20\x20')
+
+
+@support.needs_player
+class OfCaptures(support.InFolder):
+    """What a capture has drawn, at its end or after an event."""
+
+    def picture(self, *words, status=0):
+        done = support.run_tool('picture', *words, cwd=self.folder)
+        self.assertEqual((done.returncode, done.stderr.count('\n')), (status, status and 1), done)
+        return done.stderr
+
+    def played(self, mode, data):
+        return subprocess.run([support.PLAYER, mode], input=data, capture_output=True, check=True).stdout
+
+    def setUp(self):
+        super().setUp()
+        self.begin = c.Capture().gp1(c.screen(0, 0, 256, 8)).gp0(c.fill(0xFF, 0, 0, 16, 8))
+        self.write('in', c.Capture().gp1(c.screen(0, 0, 256, 8)).gp0(c.fill(0xFF, 0, 0, 16, 8),
+                                                                     c.fill(0xFF00, 16, 0, 16, 8)).bytes())
+
+    def test_displayed(self):
+        self.picture('in', '-o', 'end.ppm')
+        self.assertEqual(self.read('end.ppm'), self.played('shot', self.read('in')))
+        self.picture('in', 'at.ppm', '--at', '8')
+        self.assertEqual(self.read('at.ppm'), self.played('shot', self.begin.bytes()))
+        self.picture('in', 'before.ppm', '--at', '10')      # inside the second packet
+        self.assertEqual(self.read('before.ppm'), self.read('at.ppm'))
+
+    def test_video_memory(self):
+        self.write('vram', self.played('vram', self.begin.bytes()))
+        for more in ([], ['--box', '0', '0', '64', '16'], ['--bits', '4', '--box', '0', '0', '16', '16']):
+            self.picture('vram', 'dump.ppm', *more)
+            self.picture('in', 'capture.ppm', '--at', '8', '--vram', *more)
+            self.assertEqual(self.read('capture.ppm'), self.read('dump.ppm'))
+
+    def test_snapshots_and_packed_files_and_pipes(self):
+        self.write('part', subprocess.run([support.PLAYER, 'cut', '6', self.path('in')], capture_output=True).stdout)
+        self.write('in.gz', gzip.compress(self.read('in')))
+        self.picture('in', 'wanted.png', '--at', '9')
+        for name in ('part', 'in.gz'):
+            self.picture(name, 'got.png', '--at', '9')
+            self.assertEqual(self.read('got.png'), self.read('wanted.png'))
+        with open(self.path('in'), 'rb') as file:
+            done = support.run_tool('picture', '-', '-', '--at', '9', stdin=file, text=False)
+        self.assertEqual(done.stdout, self.read('wanted.png'))
+
+    def test_refused(self):
+        self.write('cut', self.read('in')[:-9])
+        self.write('part', subprocess.run([support.PLAYER, 'cut', '6', self.path('in')], capture_output=True).stdout)
+        self.write('none', c.Capture().gp1(c.vertical_range(1, 1)).bytes())
+        self.write('dump', bytes(2048))
+        for words, text in ((['in', '-o', 'x', '--at', '12'], 'in: it has 11 events'), (['in'], 'name one picture'),
+                            (['in', 'x', '-o', 'y'], 'name one picture'), (['in', 'in'], 'in is also the input'),
+                            (['part', 'x', '--at', '5'], 'part: it begins after event 6'),
+                            (['cut', 'x'], 'cut: psxgpu: truncated at'), (['none', 'x'], 'none: psxgpu: no-picture'),
+                            (['dump', 'x', '--at', '1'], 'dump: not a capture'),
+                            (['dump', 'x', '--vram'], '--vram is for captures')):
+            self.assertIn(text, self.picture(*words, status=2))
+        self.assertFalse(os.path.exists(self.path('x')))
+        with open(self.path('in'), 'rb') as file:
+            done = support.run_tool('picture', '-', 'x', stdin=file, cwd=self.folder)
+        self.assertIn('standard input: a capture: name its file', done.stderr)

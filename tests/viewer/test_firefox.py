@@ -7,10 +7,13 @@ import json
 import os
 import unittest
 
+from tests import support
 from tests.viewer.page import HERE, PAGE, examples, program
 from tests.viewer.recordings import two_buffers
 
 from tests.web.firefox import Firefox, firefox
+
+setUpModule = support.needs_built(PAGE, 'viewer')
 
 
 def sum_of(data):

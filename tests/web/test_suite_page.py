@@ -15,6 +15,7 @@ from psxgpu.conformance.released import COLUMNS
 from psxgpu.stream import HEADS
 
 WEB = os.path.join(support.TOP, 'web')
+setUpModule = support.needs_built(os.path.join(WEB, 'out', 'conformance.html'), 'web')
 LINES = "[...document.querySelectorAll('%s')].map(line => line.textContent)"
 # A test, a column of its line, a value that is wrong, and what the page says.
 WRONG = (

@@ -13,10 +13,12 @@ import unittest
 HERE = os.path.dirname(os.path.abspath(__file__))
 WEB = os.path.join(os.path.dirname(os.path.dirname(HERE)), 'web')
 
+from tests import support
 from tests.library import support as program
 from tests.web.browser import Browser, chromium
 from tests.web.firefox import Firefox, firefox
 
+setUpModule = support.needs_built(os.path.join(WEB, 'out', 'index.html'), 'web')
 COMMANDS = ['play', 'vram', 'shot', 'list', 'report', 'frames', 'frames marks', 'sums', 'sums marks', 'pixel 20 30']
 # A module whose only part is a memory with addresses of 64 bits.
 WIDE_MEMORY = 'WebAssembly.validate(new Uint8Array([0, 97, 115, 109, 1, 0, 0, 0, 5, 3, 1, 4, 1]))'

@@ -1,4 +1,5 @@
 pub mod Appended
 pub mod Gives
 pub mod Parts
+pub mod Repeating
 pub mod Writing

@@ -1,3 +1,4 @@
+pub mod Calls
 pub mod Cut
 pub mod Device
 pub mod Memory

@@ -17,9 +17,10 @@ pub trait Source {
     /// How many bytes it can return without waiting for any.
     ghost at_hand: { Self → ℕ };
 
-    /// Writes the next bytes to the start of `buf` and returns their number. It is 0 only if no byte is left or `buf`
-    /// is empty. On failure, nothing was read.
+    /// Writes the next bytes to the start of `buf` and returns their number. It is 0 only if no byte is left. On
+    /// failure, nothing was read. `buf` must not be empty: a call that asks for nothing may wait for a byte.
     fn read(&mut self, buf: &mut [u8]) -> Result<usize, Failed>
+        requires { 0 < length buf.old }
         ensures ok { IfOk result (λ n. Gives (left self.old) (left self.new) buf.new n) }
         ensures end { IfOk result (λ n. n ≡ 0 → 0 < length buf.new → IsAtEnd (left self.new)) }
         ensures failed { OnErr result (left self.new ≡ left self.old) }

@@ -5,6 +5,7 @@
 //! adapters over std's readers and writers, which the proofs trust.
 #![tactic(auto)]
 
+mod attempt;
 mod buffer;
 mod cut_source;
 mod device;
@@ -15,6 +16,7 @@ mod mem_source;
 mod pieces;
 mod retry;
 
+pub use attempt::{Reader, Writer};
 pub use buffer::fill;
 pub use cut_source::CutSource;
 pub use device::{Failed, Sink, Source};

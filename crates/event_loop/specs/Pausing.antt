@@ -1,6 +1,10 @@
 -- Output that is buffered while events are read (our own rule).
-use Rattle.std.specs.Prelude.{◌≡◌, ◌<◌, ◌≤◌, ◌⊎◌, ◌+◌, ◌++◌, ℕ, List, [], ◌∷◌, length}
+use Rattle.std.specs.Prelude.{◌≡◌, ◌<◌, ◌≤◌, ◌⊎◌, ◌+◌, ◌++◌, ℕ, List, [], ◌∷◌, length, Result, IfOk, OnOk}
+use Rattle.gpu_capture.specs.Reader.{work_left}
+use Rattle.gpu_capture.specs.Record.{IsEvent}
 use Rattle.gpu_capture.specs.declared.event.Event.{Event}
+use Rattle.gpu_capture.specs.declared.event.Stop.{Stop}
+use Rattle.gpu_capture.specs.declared.progress.Progress.{Progress}
 use Rattle.gathered_out.specs.Puts.{Holding, IsWritten}
 
 -- The most bytes that are read while output is buffered: 4,096, and the 16 of one event.
@@ -13,6 +17,12 @@ abbrev pub Pauses : (offset since : ℕ) → (before now : Holding) → (at : �
 Pauses offset since before now at =
     ((at ≡ since) × (offset < since + 4096) × (now.buffered ≡ before.buffered) × (now.held ≡ before.held))
     ⊎ ((at ≡ offset) × (now.buffered ≡ []) × IsWritten before.held now.held before.buffered)
+
+-- If a reader returns an event, the event is in its bounds, less is left to read, and the header is read.
+pub record GivesEvent (old new : Progress) (next : Result Event Stop) : Type 0 where
+  pub event : IfOk next IsEvent
+  pub forward : OnOk next (work_left new < work_left old)
+  pub version : OnOk next (1 ≤ new.version)
 
 -- the output of every event after these may be buffered
 abbrev pub WaitsAfter : (most : List Event → Event → ℕ) → List Event → Type 0

@@ -1,5 +1,5 @@
 //! One loop over the events of a source. A trait says what happens at each event and what output it has. Loops of other
-//! crates use only [`write_at_pause`], [`end_after`] and the types of endings.
+//! crates use only [`write_at_pause`], [`next_event`], [`end_after`] and the types of endings.
 #![tactic(auto)]
 
 mod ended;
@@ -11,5 +11,5 @@ mod stop;
 pub use ended::{Ended, Halt};
 pub use pass::pass_all;
 pub use passage::Passage;
-pub use pause::write_at_pause;
+pub use pause::{next_event, write_at_pause};
 pub use stop::end_after;

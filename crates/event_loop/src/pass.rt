@@ -8,7 +8,7 @@ ghost use Rattle.event_loop.specs.Ending.{Ends, MayReadFault, MayWriteFault, IsE
 
 use crate::ended::Ended;
 use crate::passage::Passage;
-use crate::pause::write_at_pause;
+use crate::pause::{next_event, write_at_pause};
 use crate::stop::{end_after, end_reading};
 use dev_io::{Sink, Source};
 use gathered_out::OutputBuffer;
@@ -44,7 +44,7 @@ pub fn pass_all<P: Passage, S: Source, K: Sink>(
 {
     let mut block = WordBlock::new();
     let mut buffered = OutputBuffer::new();
-    let mut next = reader.next(source);
+    let mut next = next_event(reader, source, &buffered);
     let version = reader.version();
     passage.begin(version);
     let mut since = reader.offset();
@@ -71,7 +71,7 @@ pub fn pass_all<P: Passage, S: Source, K: Sink>(
                     Ok(offset) => since = offset,
                     Err(event) => return Ended::WriteFailed { event },
                 }
-                next = reader.next(source);
+                next = next_event(reader, source, &buffered);
             }
             Err(stop) => return end_reading(passage, stop, &mut buffered, out),
         }

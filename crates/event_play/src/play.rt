@@ -33,9 +33,11 @@ impl Rig {
     /// that event were read. All other output is written at its event.
     ///
     /// `Done` means that the capture was whole and all output was written. After every ending except `WriteFailed`, the
-    /// rig is as after the events played. If the line of an item cannot be written, the remaining words of its event
-    /// are not fed, and the event does not count. Words that are played as one block are all played nevertheless: a
-    /// word of a Gp0 record and its next words at hand.
+    /// rig is as after the events played. If the line of an item cannot be written, all events that were read are
+    /// played and count, the named one and those after it too. Of the last one of them, perhaps only the first words
+    /// were fed; then it does not count, and the running transfer is as before it. Which words these are is not stated.
+    /// If a shown word, a picture or its line cannot be written, its event is the last one read; it is played and
+    /// counts.
     pub fn play<S: Source, K: Sink, T: Listener, L: Ledger>(
         &mut self,
         source: &mut S,

@@ -4,9 +4,8 @@ use Rattle.std.proofs.Common.{false, nat_lt, nat_le, length, flat_map, refl, ap,
 use Rattle.std.proofs.Common.{arith, ◌==◌}
 use Rattle.byteorder.specs.Endian.{little_number, little_bytes}
 use Rattle.byteorder.specs.Numbers.{little_number-reads_back}
-use Rattle.gpu_capture.specs.Capture.{Captured, capture, then_events, after_step, records, limit, head_of, IsVersion}
+use Rattle.gpu_capture.specs.Capture.{capture, then_events, after_step, records, limit, head_of, IsVersion}
 use Rattle.gpu_capture.specs.Record.{word_step, started_by}
-use Rattle.std.proofs.lemmas.Bool.{cases_Bool}
 use Rattle.gpu_capture.specs.Written.{word_bytes, record_words, spelled, spelled_end, written, tag_of, Allows}
 use Rattle.gpu_capture.specs.Written.{AllowsAll}
 use Rattle.gpu_capture.specs.declared.event.Event.{Event}
@@ -15,8 +14,7 @@ use Rattle.gpu_capture.specs.declared.event.Stop.TheVariants.{End}
 use Rattle.gpu_capture.specs.declared.record.Expected.{Expected}
 use Rattle.gpu_capture.specs.declared.record.Expected.TheVariants as expected
 use Rattle.gpu_capture.specs.declared.record.Start.TheVariants as start
-use Rattle.gpu_capture.specs.declared.record.Step.{Step}
-use Rattle.gpu_capture.specs.declared.record.Step.TheVariants.{Opens, Gives as GivesEvents, Closes}
+use Rattle.gpu_capture.specs.declared.record.Step.TheVariants.{Opens, Gives as GivesEvents}
 
 pub word_length : (word : ℕ) → length (word_bytes word) ≡ 4
 unfolding word_bytes

@@ -122,7 +122,7 @@ impl EventReader {
         ensures version { OnOk result (1 ≤ self.new.progress.version) }
         ensures stop { self.old.stop ≡ None → IfErr result (StopsAt (reader_input self.old.progress (S.left source.old))
             (reader_input self.new.progress (S.left source.new))) }
-        ensures keeps { KeepsStop self.old self.new (S.left source.old) (S.left source.new) result }
+        ensures keeps { KeepsStop self.old self.new source.old source.new result }
         ensures cause { self.old.stop ≡ None → IfErr result (λ stop.
             IsReadFault stop → Rose (S.faults source.old) (S.faults source.new)) }
         ensures faults { S.faults source.old ≤ S.faults source.new }
@@ -158,7 +158,7 @@ impl EventReader {
         ensures goes_on { GoesOn self.old.progress self.new.progress }
         ensures stop { IfErr result (StopsAfter (reader_input self.old.progress (S.left source.old))
             (reader_input self.new.progress (S.left source.new)) block.new) }
-        ensures keeps { KeepsStop self.old self.new (S.left source.old) (S.left source.new) result }
+        ensures keeps { KeepsStop self.old self.new source.old source.new result }
         ensures faults { CountsFaults IsReadFault (S.faults source.old) (S.faults source.new) result }
     {
         self.stop = block.take(&mut self.progress, source, most).err();

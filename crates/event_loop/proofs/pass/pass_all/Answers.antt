@@ -13,14 +13,14 @@ events-init g c = record {
     [],
     c.begin.ensures.stands s b,
     starts _ _ _ _ _ _ _ _ c.new-buffered.ensures c.offset-since.ensures refl c.version-version.ensures.value
-        c.next-next.result c.next-next.ensures.takes c.next-next.ensures.version
-        (c.next-next.ensures.stop c.requires),
+        c.next_event-next.result c.next_event-next.ensures.takes c.next_event-next.ensures.gives.version
+        (c.next_event-next.ensures.stop c.requires),
   );
-  event = c.next-next.ensures.event;
+  event = c.next_event-next.ensures.gives.event;
   ready = rw c.new-buffered.ensures c.begin.ensures.ready;
-  running = c.next-next.ensures.keeps.runs_on;
-  read_cause = c.next-next.ensures.cause c.requires;
-  read_faults = c.next-next.ensures.faults;
+  running = c.next_event-next.ensures.keeps.runs_on;
+  read_cause = c.next_event-next.ensures.cause c.requires;
+  read_faults = c.next_event-next.ensures.faults;
   write_faults = omega arith;
   same = c.begin.ensures.same;
 }
@@ -98,8 +98,8 @@ returns-in-Err-write_at_pause-2-clause-same g c =
 
 pub events-smaller : goal.events-smaller
 events-smaller g c =
-    left_less _ _ _ _ c.next-next-in-Ok.result c.in-Ok.event c.in-Ok.is c.in_default-read.ensures.goes_on.forward
-    c.next-next-in-Ok.ensures.forward
+    left_less _ _ _ _ c.next_event-next-in-Ok.result c.in-Ok.event c.in-Ok.is c.in_default-read.ensures.goes_on.forward
+    c.next_event-next-in-Ok.ensures.gives.forward
 
 pub returns-in-Err-read-clause-ends : goal.returns-in-Err-read-clause-ends
 returns-in-Err-read-clause-ends g c = λ s b.
@@ -185,23 +185,24 @@ events-preserved g c =
           (g.K.Sink.held c.write_at_pause-in-Ok.new.out) went c.in-Ok-write_at_pause-2.ensures.ok in (
             (at.0 ++ c.in-Ok.event ∷ []) ++ word_events c.words-read.new.block,
             rw c.as_slice.ensures at (c.take_words.ensures.stands s version _ stood some),
-            reads _ _ _ _ _ _ _ _ _ again.on again.near c.next-next-in-Ok.result c.next-next-in-Ok.ensures.takes
-                c.next-next-in-Ok.ensures.version (c.next-next-in-Ok.ensures.stop running),
+            reads _ _ _ _ _ _ _ _ _ again.on again.near c.next_event-next-in-Ok.result
+                c.next_event-next-in-Ok.ensures.takes c.next_event-next-in-Ok.ensures.gives.version
+                (c.next_event-next-in-Ok.ensures.stop running),
           );
-      event = c.next-next-in-Ok.ensures.event;
+      event = c.next_event-next-in-Ok.ensures.gives.event;
       ready = pauses_wait (g.P.Passage.ready c.take_words.new.self) _ _ c.in-Ok-write_at_pause-2.offset _ _
           c.in-Ok-write_at_pause-2.ensures.ok c.in_default.ensures.ready
           (g.met.P.Passage.ready_after _ _ c.in_default.ensures.ready);
-      running = c.next-next-in-Ok.ensures.keeps.runs_on;
-      read_cause = IfErr-weaker c.next-next-in-Ok.result _ _
+      running = c.next_event-next-in-Ok.ensures.keeps.runs_on;
+      read_cause = IfErr-weaker c.next_event-next-in-Ok.result _ _
           (λ stop may fault.
           omega (arith, may fault, c.events.invariant.read_faults, c.words-read.ensures.faults.kept))
-          (c.next-next-in-Ok.ensures.cause running);
+          (c.next_event-next-in-Ok.ensures.cause running);
       read_faults = omega (
         arith,
         c.events.invariant.read_faults,
         c.words-read.ensures.faults.kept,
-        c.next-next-in-Ok.ensures.faults,
+        c.next_event-next-in-Ok.ensures.faults,
       );
       write_faults = omega (
         arith,

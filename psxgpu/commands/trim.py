@@ -1,0 +1,96 @@
+"""Writes some frames of a capture, with the state before them: a snapshot that plays as the whole does there.
+
+    psxgpu trim --frames 12-14 mine.capture -o part.snapshot
+    psxgpu trim --frames 30- mine.psxgpu.zst | psxgpu_tool shot > last.ppm
+
+The output has the state before the first of these frames, and the events up to the end of the last one. Events keep
+their numbers. Frames are numbered from 1. A frame ends at each mark (GP1(3Fh), which recorders write at a vertical
+blank) or, in a capture without marks, at each flip: a write of the display start. Events after the last end are a frame
+too. If the first frame is 1, nothing is before it, and the output is a capture. To count events, use `psxgpu first` and
+`psxgpu_tool cut`.
+
+Status: 0 written, 2 an error, also if the capture has fewer frames. Then no file is written, and an old one stays.
+"""
+import argparse
+import re
+import tempfile
+from typing import BinaryIO, List, Optional, Tuple
+
+from psxgpu.command import ToolError, pour, title, writing
+from psxgpu.corpus.scan import FLIP, MARK, copy_first, frames
+from psxgpu.files import plain
+from psxgpu.players import player
+from psxgpu.stream import SNAPSHOT
+
+Range = Tuple[int, Optional[int]]
+
+
+def frame_range(text: str) -> Range:
+    """Returns the first and the last frame of `A-B`, `A-` or `A`. The last is None if it is left out after a hyphen."""
+    found = re.fullmatch('([1-9][0-9]{0,9})(-([1-9][0-9]{0,9})?)?', text)
+    if not found:
+        raise argparse.ArgumentTypeError('%s is not a range of frames, as 12-14' % text)
+    first = int(found[1])
+    last = int(found[3]) if found[3] else None if found[2] else first
+    if last is not None and last < first:
+        raise argparse.ArgumentTypeError('%s: the first frame comes after the last' % text)
+    return first, last
+
+
+def arguments(parser: argparse.ArgumentParser) -> None:
+    """Adds the arguments of this tool."""
+    parser.add_argument('capture', metavar='CAPTURE', help='a capture or a dump of a GPU; - is standard input')
+    parser.add_argument('--frames', type=frame_range, required=True, metavar='A-B', help='the first and the last frame')
+    parser.add_argument('-o', '--output', default='-', metavar='OUTPUT',
+                        help='the snapshot to write; standard output if left out')
+    parser.add_argument('--flips', action='store_true', help='a frame ends at each flip, even if there are marks')
+    player.argument(parser)
+
+
+def ends_of(path: str, by_flips: bool) -> List[int]:
+    """Returns the last event of each frame. Raises ValueError if the capture is damaged."""
+    ends, last = frames(path, FLIP if by_flips else MARK)
+    if not ends and not by_flips:
+        ends, last = frames(path, FLIP)
+    return ends + [last] * (last > (ends[-1] if ends else 0))
+
+
+def events_of(ends: List[int], wanted: Range) -> Tuple[int, int]:
+    """Returns the number of events before these frames, and their last event. Raises ValueError if they are not
+    there."""
+    first, last = wanted[0], wanted[1] or len(ends)
+    if max(first, last) > len(ends):
+        raise ValueError('it has %d frame%s' % (len(ends), 's' * (len(ends) != 1)))
+    return ends[first - 2] if first > 1 else 0, ends[last - 1]
+
+
+def is_snapshot(path: str) -> bool:
+    """Returns whether a file is a snapshot."""
+    with open(path, 'rb') as file:
+        return file.read(len(SNAPSHOT)) == SNAPSHOT
+
+
+def trim(path: str, before: int, last: int, program: str, target: BinaryIO) -> None:
+    """Writes the state after the first `before` events, and the events from there up to `last`. Raises ValueError if
+    the capture is a snapshot: it has a state already."""
+    if not before:
+        copy_first(path, last, target)
+        return
+    if is_snapshot(path):
+        raise ValueError('a snapshot: its first frame is 1, and it cannot be cut again')
+    with tempfile.NamedTemporaryFile(prefix='psxgpu') as part:
+        copy_first(path, last, part)
+        part.flush()
+        with player.playing(program, ['cut', str(before)], part.name) as run:
+            pour(run.out, target)
+            run.expect_whole()
+
+
+def run(words: argparse.Namespace) -> None:
+    """Writes the frames."""
+    program, name = player.find(words.player), title(words.capture)
+    with writing(words.output, [words.capture]) as target, plain(words.capture) as path:
+        try:
+            trim(path, *events_of(ends_of(path, words.flips), words.frames), program, target)
+        except ValueError as error:
+            raise ToolError('%s: %s' % (name, error)) from error

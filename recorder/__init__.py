@@ -1,1 +1,0 @@
-"""The recorder: a header, a plugin for emulators and the command `record`."""
