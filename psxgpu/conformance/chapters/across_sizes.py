@@ -27,16 +27,19 @@ def loaded(t: Draft) -> None:
     mode(t, page_of(2))
 
 
+def has_a_size_word(drawer: Drawer) -> bool:
+    """Accepts rectangles of the size code 0."""
+    return not drawer.opcode & 0x18
+
+
 def color(drawer: Drawer) -> int:
     return NEUTRAL if drawer.is_textured else COLOR
 
 
-def ends(is_y: bool) -> List[Tuple[List[int], int]]:
-    """Returns a drawing area at each end of the long side, and the number of its cell that is not judged: the one at
-    its inner edge."""
-    last = LAST[is_y]
-    return [(list(drawing_area(0, 0, *turned(8, LAST[not is_y], is_y))), 8),
-            (list(drawing_area(*turned(last - 9, 0, is_y), *LAST)), last - 9)]
+def ends(is_y: bool) -> List[List[int]]:
+    """Returns the words of a drawing area at each end of the long side. The cell at its inner edge is not judged."""
+    return [drawing_area(0, 0, *turned(8, LAST[not is_y], is_y)),
+            drawing_area(*turned(LAST[is_y] - 9, 0, is_y), *LAST)]
 
 
 def judged(t: Draft, is_y: bool, at: int, height: int, is_drawn: bool) -> None:
@@ -49,17 +52,19 @@ def judged(t: Draft, is_y: bool, at: int, height: int, is_drawn: bool) -> None:
         t.ignore(*turned(along, at, is_y), *turned(1, height, is_y))
 
 
-def far(is_y: bool) -> None:
-    """Two tests of polygons and two of lines: of the greatest size, and one larger."""
-    letter = 'XY'[is_y]
+def texts(is_y: bool, what: str) -> Tuple[str, str]:
+    """Returns the name of a test, and what it says."""
+    letter, most = 'XY'[is_y], LAST[is_y]
+    return 'size-in-' + letter.lower(), 'In {} %s %d apart in %s are drawn, and %s %d apart are not.' % (
+        what, most, letter, what, most + 1)
 
-    @across(polygons.CHAPTER, 'size-in-%s' % letter.lower(),
-            'In {} vertices %d apart in %s are drawn, and vertices %d apart are not.' % (
-                LAST[is_y], letter, LAST[is_y] + 1),
-            (RULES[is_y],), (POLYGONS,), before=loaded)
-    def of_polygons(t: Draft, drawer: Drawer, x: int, y: int) -> None:
+
+def of_polygons(is_y: bool) -> None:
+    """A test of polygons of the greatest size, and one larger."""
+    @across(polygons.CHAPTER, *texts(is_y, 'vertices'), (RULES[is_y],), (POLYGONS,), before=loaded)
+    def one(t: Draft, drawer: Drawer, x: int, y: int) -> None:
         at = 20 + 6 * y + x
-        for area, _ in ends(is_y):
+        for area in ends(is_y):
             t.before(area)
             for start, side in ((0, at), (-1, at + 10)):
                 places = [turned(along, across_it, is_y)
@@ -69,31 +74,39 @@ def far(is_y: bool) -> None:
         judged(t, is_y, at, 8, True)
         judged(t, is_y, at + 10, 8, False)
 
-    @across(lines.CHAPTER, 'size-in-%s' % letter.lower(),
-            'In {} ends %d apart in %s are drawn, and ends %d apart are not.' % (LAST[is_y], letter, LAST[is_y] + 1),
-            (RULES[is_y],), (LINES,))
-    def of_lines(t: Draft, drawer: Drawer, x: int, y: int) -> None:
+
+def chains(drawer: Drawer, start: int, last: int) -> List[List[int]]:
+    """Returns how far along each vertex is: of polylines that have the long segment first, and that have it second."""
+    return [[start, last]] if len(drawer.kinds) == 1 else [[start, last, last - 3], [4, start, last]]
+
+
+def of_lines(is_y: bool) -> None:
+    """A test of lines of the greatest size, and one larger."""
+    @across(lines.CHAPTER, *texts(is_y, 'ends'), (RULES[is_y],), (LINES,))
+    def one(t: Draft, drawer: Drawer, x: int, y: int) -> None:
         at, last = 10 + x, LAST[is_y]
-        for area, _ in ends(is_y):
+        for area in ends(is_y):
             t.before(area)
             for start, side in ((0, at), (-1, at + 8)):
-                chains = ([[start, last]] if len(drawer.kinds) == 1 else [[start, last, last - 3], [4, start, last]])
-                for number, chain in enumerate(chains):
+                for number, chain in enumerate(chains(drawer, start, last)):
                     points = [turned(along, side + 2 * number, is_y) for along in chain]
                     t.packet(line(points, [COLOR] * len(points) if drawer.is_shaded else COLOR))
         for number in range(len(drawer.kinds)):
             judged(t, is_y, at + 2 * number, 1, True)
             judged(t, is_y, at + 8 + 2 * number, 1, False)
-        if len(drawer.kinds) > 1:           # of each chain the short segment is drawn
+        if len(drawer.kinds) > 1:           # of each polyline the short segment is drawn
             for along in (last - 3, last - 2, last - 1):
                 t.cell(*turned(along, at + 8, is_y), CELL)
             t.ignore(*turned(last - 3, at + 8, is_y), 1)
             for along in range(5):
                 t.cell(*turned(along, at + 10, is_y), CELL)
 
-    @across(rectangles.CHAPTER, 'size-in-%s' % letter.lower(), 'Sizes up to %d in %s are drawn in {}.' % (
-        LAST[is_y], letter), (RULES[is_y],), (RECTANGLES,), only=lambda drawer: not drawer.opcode & 0x18, before=loaded)
-    def of_rectangles(t: Draft, drawer: Drawer, x: int, y: int) -> None:
+
+def of_rectangles(is_y: bool) -> None:
+    """A test of rectangles of the greatest size: the size rule does not hold for them."""
+    @across(rectangles.CHAPTER, texts(is_y, '')[0], 'Sizes up to %d in %s are drawn in {}.' % (LAST[is_y], 'XY'[is_y]),
+            (RULES[is_y],), (RECTANGLES,), only=has_a_size_word, before=loaded)
+    def one(t: Draft, drawer: Drawer, x: int, y: int) -> None:
         t.before(texture_window(31, 31, 0, 0))
         at, last = 20 + x, LAST[is_y]
         first, *words = drawer.words(*turned(0, at, is_y), color(drawer))
@@ -102,8 +115,10 @@ def far(is_y: bool) -> None:
         t.box(*turned(0, at, is_y), width, height, CELL)
 
 
-far(False)
-far(True)
+for _is_y in (False, True):
+    of_polygons(_is_y)
+    of_lines(_is_y)
+    of_rectangles(_is_y)
 
 
 def has_two_halves(drawer: Drawer) -> bool:
@@ -127,7 +142,7 @@ def one_half(t: Draft, drawer: Drawer, x: int, y: int) -> None:
 
 @across(rectangles.CHAPTER, 'empty', 'With a width or a height of 0 nothing is drawn, in {}.', ('size 0',),
         (RECTANGLES,),
-        only=lambda drawer: not drawer.opcode & 0x18, before=loaded)
+        only=has_a_size_word, before=loaded)
 def empty(t: Draft, drawer: Drawer, x: int, y: int) -> None:
     words = drawer.words(x + 10, y + 10, color(drawer))
     for size in (2, 2 << 16):
