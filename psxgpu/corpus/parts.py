@@ -8,6 +8,7 @@ from psxgpu.corpus.scan import FLIP, copy_first, frames
 from psxgpu.errors import counted
 from psxgpu.files import plain
 from psxgpu.output import Tree, folder
+from psxgpu.stream import SNAPSHOT
 
 
 def nearest(events: Sequence[int], want: int) -> int:
@@ -26,6 +27,12 @@ def places(path: str, parts: int, opcode: int) -> List[int]:
     return chosen + [last]
 
 
+def is_snapshot(path: str) -> bool:
+    """Returns whether a file begins as a snapshot does."""
+    with open(path, 'rb') as file:
+        return file.read(len(SNAPSHOT)) == SNAPSHOT
+
+
 def write_part(path: str, name: str, events: Tuple[int, int], out: IO[bytes], player: Player) -> None:
     """Writes the events after the first of `events` up to the second. `name` is what messages call the recording."""
     before, last = events
@@ -42,6 +49,8 @@ def write_part(path: str, name: str, events: Tuple[int, int], out: IO[bytes], pl
 def split(path: str, parts: int, target: Tree, player: Player, opcode: int = FLIP) -> None:
     """Writes the parts of a recording into a folder, and prints their names."""
     with plain(path) as whole:
+        if is_snapshot(whole):
+            raise ToolError('%s: a snapshot: `split` takes a capture' % path)
         try:
             ends = places(whole, parts, opcode)
         except ValueError as error:
