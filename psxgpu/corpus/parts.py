@@ -6,9 +6,8 @@ from psxgpu.command import ToolError, pour
 from psxgpu.corpus.play import Player
 from psxgpu.corpus.scan import FLIP, copy_first, frames
 from psxgpu.errors import counted
-from psxgpu.files import plain
+from psxgpu.files import is_snapshot, plain
 from psxgpu.output import Tree, folder
-from psxgpu.stream import SNAPSHOT
 
 
 def nearest(events: Sequence[int], want: int) -> int:
@@ -25,12 +24,6 @@ def places(path: str, parts: int, opcode: int) -> List[int]:
     if len(chosen) + 1 < parts:
         raise ValueError('%s, too few for %d parts' % (counted(len(found), 'frame'), parts))
     return chosen + [last]
-
-
-def is_snapshot(path: str) -> bool:
-    """Returns whether a file begins as a snapshot does."""
-    with open(path, 'rb') as file:
-        return file.read(len(SNAPSHOT)) == SNAPSHOT
 
 
 def write_part(path: str, name: str, events: Tuple[int, int], out: IO[bytes], player: Player) -> None:
