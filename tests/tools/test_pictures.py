@@ -185,8 +185,8 @@ class OfCaptures(support.InFolder):
         self.write('part', subprocess.run([support.PLAYER, 'cut', '6', self.path('in')], capture_output=True).stdout)
         self.write('none', c.Capture().gp1(c.vertical_range(1, 1)).bytes())
         self.write('dump', bytes(2048))
-        for words, text in ((['in', '-o', 'x', '--at', '12'], 'in: it has 11 events'), (['in'], 'name one picture'),
-                            (['in', 'x', '-o', 'y'], 'name one picture'), (['in', 'in'], 'in is also the input'),
+        for words, text in ((['in', '-o', 'x', '--at', '12'], 'in: it has 11 events'), (['in'], 'name the picture'),
+                            (['in', 'x', '-o', 'y'], 'two outputs are named'), (['in', 'in'], 'in is also the input'),
                             (['part', 'x', '--at', '5'], 'part: it begins after event 6'),
                             (['cut', 'x'], 'cut: psxgpu: truncated at'), (['none', 'x'], 'none: psxgpu: no-picture'),
                             (['dump', 'x', '--at', '1'], 'dump: not a capture'),
