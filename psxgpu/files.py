@@ -70,6 +70,12 @@ def plain(path: str, name: Optional[str] = None) -> Iterator[str]:
         yield copy.name
 
 
+def is_snapshot(path: str) -> bool:
+    """Returns whether a file begins as a snapshot does."""
+    with open(path, 'rb') as file:
+        return file.read(len(SNAPSHOT)) == SNAPSHOT
+
+
 def is_recording(path: str) -> bool:
     """Returns whether a file of the disk is a capture, a snapshot or a dump, packed or not."""
     if path == '-' or not os.path.isfile(path):

@@ -86,6 +86,46 @@ class Pieces:
         return out
 
 
+class XzFile:
+    """Unpacks xz: streams one after another, with zeros between and after them. `lzma.LZMAFile` takes any bytes
+    there."""
+
+    def __init__(self, file: Readable) -> None:
+        self.file = file
+        self.unpacker: Optional[lzma.LZMADecompressor] = lzma.LZMADecompressor(lzma.FORMAT_XZ)
+        self.rest = b''
+
+    def next_stream(self) -> bool:
+        """Begins the stream after one that ended. Returns whether there is one."""
+        zeros = 0
+        while True:
+            there = self.rest.lstrip(b'\0')
+            zeros += len(self.rest) - len(there)
+            self.rest = there or self.file.read(BLOCK)
+            if there or not self.rest:
+                break
+        if zeros % 4 or self.rest and not XZ.startswith(self.rest[:len(XZ)]):
+            raise lzma.LZMAError('bytes after the end of the data')
+        self.unpacker = lzma.LZMADecompressor(lzma.FORMAT_XZ) if self.rest else None
+        return bool(self.rest)
+
+    def read1(self, count: int) -> bytes:
+        """Returns some of the next bytes, at most `count`; none at the end."""
+        out = b''
+        while not out and self.unpacker:
+            if self.unpacker.eof:
+                self.rest = self.unpacker.unused_data
+                if not self.next_stream():
+                    break
+            wants = self.unpacker.needs_input and not self.rest
+            packed = self.file.read(BLOCK) if wants else self.rest
+            if wants and not packed:
+                raise EOFError('compressed file ended before the end-of-stream marker was reached')
+            self.rest = b''
+            out = self.unpacker.decompress(packed, count)
+        return out
+
+
 def pieces_of(file: Any, name: str) -> Pieces:
     """Returns the bytes of a file that unpacks. A fault of the packed bytes is `Damaged`."""
     def more() -> bytes:
@@ -121,7 +161,7 @@ def unpacked(path: str, name: Optional[str] = None) -> Iterator[Peeked]:
         if first.startswith(GZIP):
             yield Peeked(pieces_of(gzip.GzipFile(fileobj=cast(Any, peeked)), name))
         elif first.startswith(XZ):
-            yield Peeked(pieces_of(lzma.LZMAFile(cast(Any, peeked)), name))
+            yield Peeked(pieces_of(XzFile(peeked), name))
         elif first.startswith(ZSTD):
             packed = stack.enter_context(on_disk(path, peeked))
             yield Peeked(pieces_of(stack.enter_context(zstd_reader(packed, name)), name))

@@ -1,7 +1,7 @@
 """Makes the table of the four emulators of docs/EMULATORS.md from stored results.
 
     python3 -m suite_trials.agreement            the table
-    python3 -m suite_trials.agreement --check    is it that of the document, and is each test that none passes read by hand?
+    python3 -m suite_trials.agreement --check    is it the document's, and is each test that none passes read by hand?
 
 The results are those of `psxgpu conform PLAYER --json`. A test that no emulator passes has to be in
 suite_trials/results/READ_BY_HAND.md by its full name. A test that is not in a stored result was not run on that player.

@@ -11,23 +11,23 @@ from __future__ import annotations
 
 import argparse
 import sys
-from typing import Iterable, List
+from typing import Iterable, Iterator, List
 
-from suite_trials import planted_cells, planted_registers, planted_shapes
+from suite_trials import planted_cells, planted_kinds, planted_registers, planted_shapes
 from suite_trials.model import Model
 from suite_trials.planted import FAULTS, Fault
 from psxgpu.conformance.chapters import CHAPTERS
 from psxgpu.conformance.judging import PASSED, Judge
 from psxgpu.conformance.suite import Test
 
-__all__ = ['FAULTS', 'finds', 'planted_cells', 'planted_registers', 'planted_shapes']
+__all__ = ['FAULTS', 'finds', 'planted_cells', 'planted_kinds', 'planted_registers', 'planted_shapes']
 
 
-def finds(one: Fault, chapters: Iterable[str] = ()) -> List[Test]:
-    """Returns the tests that a model with the fault does not pass: those of some chapters, or of all."""
-    judge = Judge(Model(**one.changes))
-    return [test for chapter in CHAPTERS if not chapters or chapter.name in chapters
-            for test in chapter.tests if judge.judge(test).kind != PASSED]
+def finds(one: Fault, chapters: Iterable[str] = ()) -> Iterator[Test]:
+    """Yields the tests that a model with the fault does not pass: those of some chapters, or of all."""
+    judge = Judge(one.make())
+    return (test for chapter in CHAPTERS if not chapters or chapter.name in chapters
+            for test in chapter.tests if judge.judge(test).kind != PASSED)
 
 
 def row(one: Fault, tests: List[Test], names: bool) -> str:
@@ -41,7 +41,7 @@ def row(one: Fault, tests: List[Test], names: bool) -> str:
 
 def quick() -> int:
     """Plants each fault, and runs the chapters alone of which one has to find it. Returns the status."""
-    missed = [one.name for one in FAULTS if not finds(one, one.chapters)]
+    missed = [one.name for one in FAULTS if next(finds(one, one.chapters), None) is None]
     print('\n'.join(['%s: not found' % name for name in missed]
                     + ['%d planted faults, %d not found in their chapters' % (len(FAULTS), len(missed))]))
     return int(bool(missed))
@@ -53,7 +53,7 @@ def main() -> int:
     parser.add_argument('--names', action='store_true', help='name the tests that find each')
     parser.add_argument('--quick', action='store_true', help='run no other chapters than those that have to find it')
     words = parser.parse_args()
-    wrong = finds(Fault('none', (), {}))
+    wrong = list(finds(Fault('none', (), Model)))
     if wrong:
         print('faults: the model itself fails %s' % ', '.join(test.full_name for test in wrong), file=sys.stderr)
         return 2
@@ -62,7 +62,7 @@ def main() -> int:
     missed, single = 0, []
     print('| planted fault | found by | in |\n|---|---:|---|')
     for one in FAULTS:
-        tests = finds(one)
+        tests = list(finds(one))
         missed += not any(test.chapter in one.chapters for test in tests)
         if len(tests) == 1:
             single.append((one.name, tests[0].full_name))

@@ -23,7 +23,7 @@ CHAPTERS_OF: Dict[str, str] = {
     'Polygons': 'polygons gouraud textures',
     'Lines': 'lines',
     'Rectangles': 'rectangles',
-    'Textures': 'textures windows',
+    'Textures': 'textures texels windows',
     'Pixels': 'dither modulation blending mask',
     'Registers': 'opcodes reads cuts display',
     'The status word': 'status',

@@ -18,11 +18,10 @@ from typing import IO, List, Optional, Tuple
 
 from psxgpu.command import ToolError, pour, title
 from psxgpu.corpus.scan import FLIP, MARK, copy_first, frames
-from psxgpu.files import plain
+from psxgpu.files import is_snapshot, plain
 from psxgpu.output import Packed, Source, once
 from psxgpu.packing import packing
 from psxgpu.players import player
-from psxgpu.stream import SNAPSHOT
 
 Range = Tuple[int, Optional[int]]
 
@@ -63,12 +62,6 @@ def events_of(ends: List[int], wanted: Range) -> Tuple[int, int]:
     if max(first, last) > len(ends):
         raise ValueError('it has %d frame%s' % (len(ends), 's' * (len(ends) != 1)))
     return ends[first - 2] if first > 1 else 0, ends[last - 1]
-
-
-def is_snapshot(path: str) -> bool:
-    """Returns whether a file is a snapshot."""
-    with open(path, 'rb') as file:
-        return file.read(len(SNAPSHOT)) == SNAPSHOT
 
 
 def trim(path: str, before: int, last: int, program: str, target: IO[bytes]) -> None:

@@ -41,8 +41,8 @@ def in_version(data: bytes, version: int) -> Optional[bytes]:
 
 
 class Folder:
-    """The folder that is written. `program`: the path of psxgpu_tool, or None. `has_programs`: programs for the console are
-    written, too. `left_out`: how many files of each kind could not be made."""
+    """The folder that is written. `program`: the path of psxgpu_tool, or None. `has_programs`: programs for the
+    console are written, too. `left_out`: how many files of each kind could not be made."""
 
     def __init__(self, out: Output, program: Optional[str], has_programs: bool = False) -> None:
         self.out, self.program, self.has_programs = out, program, has_programs
@@ -104,7 +104,8 @@ class Folder:
 
 
     def programs(self, tests: Sequence[Test]) -> int:
-        """Writes the programs that hold many tests, and which square is which test. Returns how many no program holds."""
+        """Writes the programs that hold many tests, and which square is which test. Returns how many no program
+        holds."""
         lines = ['\t'.join(programs.COLUMNS)]
         for number, program in enumerate(programs.programs(tests), 1):
             name = 'suite-%d.exe' % number

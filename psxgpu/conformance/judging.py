@@ -15,8 +15,8 @@ MOST_BITS = 4               # of a word, that are named
 
 @dataclass
 class Verdict:
-    """What is found of a test: one of KINDS, and the reason. `dump`: what was drawn, if cells differ at `places`. `shown`:
-    the picture that was shown instead of the expected one."""
+    """What is found of a test: one of KINDS, and the reason. `dump`: what was drawn, if cells differ at `places`.
+    `shown`: the picture that was shown instead of the expected one."""
     test: Test
     kind: str
     reason: str = ''

@@ -1,8 +1,8 @@
 """Programs for the console that hold many tests each, and show a page with a square for each test: green or red.
 
 A test begins with a reset and with video memory of zeros, and is judged before the next one begins. What it reads is
-compared when it is read. At its end the program sets the cells that do not matter to 0, and compares video memory by the
-CRC-32 of parts of 64 by 64 cells. All that is compared is what the test says: no other player has a part in it.
+compared when it is read. At its end the program sets the cells that do not matter to 0, and compares video memory by
+the CRC-32 of parts of 64 by 64 cells. All that is compared is what the test says: no other player has a part in it.
 """
 from __future__ import annotations
 
@@ -20,7 +20,7 @@ from psxgpu.console.orders import Kind, Orders
 from psxgpu.console.plan import Plan
 from psxgpu.stream import READ, STAT, Stream
 
-MOST_CHAPTERS = 10                      # of a page
+MOST_CHAPTERS, MOST_TESTS = 10, 160     # of a program: its page has room for ten, and it ends within a minute
 LEFT, ACROSS, PITCH = 144, 20, 8        # of the squares
 HEADS = 2                               # lines above the chapters
 SPARE = 16                              # words that end a packet which an emulator did not drop at the reset
@@ -127,9 +127,10 @@ def programs(tests: Iterable[Test]) -> List[Program]:
     """Returns the programs of those tests that a program can hold: all tests of a chapter are in one program."""
     held = [test for test in tests if is_held(test)]
     chapters = list(dict.fromkeys(test.chapter for test in held))
-    number = -(-len(chapters) // MOST_CHAPTERS)
+    number = max(-(-len(chapters) // MOST_CHAPTERS), -(-len(held) // MOST_TESTS))
     most = -(-len(chapters) // number) if number else 0
-    return [Program([test for test in held if test.chapter in chapters[most * k:most * (k + 1)]]) for k in range(number)]
+    return [Program([test for test in held if test.chapter in chapters[most * k:most * (k + 1)]])
+            for k in range(number)]
 
 
 def places(name: str, program: Program) -> Iterator[str]:

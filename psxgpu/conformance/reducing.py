@@ -35,7 +35,8 @@ def reduce_one(verdict: Verdict, ours: Player, theirs: Player, out: Folder, prog
 
 
 def reduce_all(verdicts: List[Verdict], theirs: Player, path: Tree, given: Optional[str]) -> List[str]:
-    """Reduces each failure whose cells or words differ. Returns a line for each. Raises ToolError without psxgpu_tool."""
+    """Reduces each failure whose cells or words differ. Returns a line for each. Raises ToolError without
+    psxgpu_tool."""
     program = player.find(given)
     ours = player_of(program)
     lines = []

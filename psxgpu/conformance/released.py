@@ -1,7 +1,7 @@
 """The released tests: a test keeps its name and what it expects, or is withdrawn by name.
 
-SUITE is raised when tests are added or withdrawn. suite_trials/expected.tsv of the checkout has the line of each test that
-was released.
+SUITE is raised when tests are added or withdrawn. suite_trials/expected.tsv of the checkout has the line of each test
+that was released.
 """
 from __future__ import annotations
 
@@ -11,7 +11,7 @@ from typing import Dict, Iterable, Iterator, List, Tuple
 
 from psxgpu.conformance.suite import Test
 
-SUITE = 1
+SUITE = 2
 WITHDRAWN: Dict[str, str] = {}          # full name: the reason
 COLUMNS = ('test', 'decides', 'capture', 'vram', 'ignored', 'picture', 'words')
 
@@ -52,8 +52,8 @@ def picture(test: Test) -> str:
 
 def expectation(test: Test) -> str:
     """Returns the line of a test. The sum of video memory is taken after the ignored cells are set to 0."""
-    return '\t'.join((test.full_name, test.decides, sum_of(test.data), sum_of(test.compared), ignored(test), picture(test),
-                      words(test)))
+    return '\t'.join((test.full_name, test.decides, sum_of(test.data), sum_of(test.compared), ignored(test),
+                      picture(test), words(test)))
 
 
 def expectations(tests: Iterable[Test]) -> str:

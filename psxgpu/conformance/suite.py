@@ -1,30 +1,32 @@
 """What a test is, and how a chapter has its own.
 
-A chapter is a module of `chapters` with a `CHAPTER`. A test is a function that fills a `Draft`: it writes the capture, and
-says what has to come out of it.
+A chapter is a module of `chapters` with a `CHAPTER`. A test is a function that fills a `Draft`: it writes the
+capture, and says what has to come out of it.
 """
 from __future__ import annotations
 
 import array
 from dataclasses import dataclass, field
 from functools import cached_property
-from typing import Callable, FrozenSet, Iterable, List, Optional
+from typing import Callable, FrozenSet, Iterable, List, Optional, Tuple
 
 from psxgpu.conformance.draft import HEIGHT, Box, Draft, Expected, Picture, Place, cell, rgb
 from psxgpu.vram import WIDTH
 
-__all__ = ['FORMULA', 'HAND', 'HEIGHT', 'OWN', 'PSX_SPX', 'Box', 'Chapter', 'Draft', 'Expected', 'Picture', 'Place', 'Test',
-           'WIDTH', 'cell', 'rgb']
+__all__ = ['FORMULA', 'HAND', 'HEIGHT', 'OWN', 'PSX_SPX', 'Box', 'Chapter', 'Draft', 'Expected', 'Picture', 'Place',
+           'Test', 'WIDTH', 'cell', 'rgb']
 
 PSX_SPX, OWN = 'psx-spx', 'own rule'                # who decides
 HAND, FORMULA = 'hand', 'formula'                   # where the expected values come from
 MOST_BYTES = 65536
 Write = Callable[[Draft], None]
+Marks = FrozenSet[Tuple[str, str]]                  # cells of the table of rules: a rule and a kind of packet
 
 
 @dataclass(frozen=True)
 class Test:
-    """A test. `says`: its rule in one sentence. `section`: of psx-spx. `needs`: what the player has to take."""
+    """A test. `says`: its rule in one sentence. `section`: of psx-spx. `needs`: what the player has to take. `marks`:
+    the cells of the table of rules that it tests."""
     chapter: str
     name: str
     says: str
@@ -34,6 +36,7 @@ class Test:
     needs: FrozenSet[str]
     version: int
     write: Write = field(compare=False)
+    marks: Marks = frozenset()
 
     @property
     def full_name(self) -> str:
@@ -98,17 +101,18 @@ class Chapter:
         self.name, self.section, self.needs, self.version = name, section, frozenset(needs), version
         self.tests: List[Test] = []
 
-    def add(self, name: str, says: str, decides: str, worked: str, write: Write, section: Optional[str] = None) -> None:
+    def add(self, name: str, says: str, decides: str, worked: str, write: Write, section: Optional[str] = None,
+            marks: Marks = frozenset()) -> None:
         """Adds a test. Raises ValueError if the chapter has its name already."""
         if any(test.name == name for test in self.tests):
             raise ValueError('%s/%s: a second one' % (self.name, name))
         self.tests.append(Test(self.name, name, says, section or self.section, decides, worked, self.needs,
-                               self.version, write))
+                               self.version, write, marks))
 
-    def test(self, says: str, decides: str = PSX_SPX, worked: str = HAND, section: Optional[str] = None
-             ) -> Callable[[Write], Write]:
+    def test(self, says: str, decides: str = PSX_SPX, worked: str = HAND, section: Optional[str] = None,
+             marks: Iterable[Tuple[str, str]] = ()) -> Callable[[Write], Write]:
         """Makes a test of a function that fills a draft. Its name, with hyphens, is the test's."""
         def keep(write: Write) -> Write:
-            self.add(write.__name__.replace('_', '-'), says, decides, worked, write, section)
+            self.add(write.__name__.replace('_', '-'), says, decides, worked, write, section, frozenset(marks))
             return write
         return keep

@@ -6,7 +6,7 @@ from psxgpu.command import ToolError, pour
 from psxgpu.corpus.play import Player
 from psxgpu.corpus.scan import FLIP, copy_first, frames
 from psxgpu.errors import counted
-from psxgpu.files import plain
+from psxgpu.files import is_snapshot, plain
 from psxgpu.output import Tree, folder
 
 
@@ -42,6 +42,8 @@ def write_part(path: str, name: str, events: Tuple[int, int], out: IO[bytes], pl
 def split(path: str, parts: int, target: Tree, player: Player, opcode: int = FLIP) -> None:
     """Writes the parts of a recording into a folder, and prints their names."""
     with plain(path) as whole:
+        if is_snapshot(whole):
+            raise ToolError('%s: a snapshot: `split` takes a capture' % path)
         try:
             ends = places(whole, parts, opcode)
         except ValueError as error:

@@ -1,4 +1,5 @@
 """Skims the records of a capture or of a snapshot: what they are and how many events they have, not their words."""
+import os
 import struct
 from typing import IO, Iterator, List, Optional, Tuple
 
@@ -14,7 +15,7 @@ def take_words(file: IO[bytes], n: int) -> Tuple[int, ...]:
     """Returns the next n words. Raises ValueError if the file ends before."""
     data = file.read(4 * n)
     if len(data) < 4 * n:
-        raise ValueError('cut at byte %d' % file.tell())
+        raise ValueError('cut at byte %d' % file.seek(0, os.SEEK_END))
     return struct.unpack('<%dI' % n, data)
 
 

@@ -1,7 +1,7 @@
 """A plain model of the machine, for the planted faults of `faults` and the changes of `mutants`.
 
-It follows docs/MACHINE.md, one small method a rule, so that a fault is one method that is replaced. It is slow, and made
-for captures as small as those of the suite. Each module adds to the machine of the one before it.
+It follows docs/MACHINE.md, one small method a rule, so that a fault is one method that is replaced. It is slow, and
+made for captures as small as those of the suite. Each module adds to the machine of the one before it.
 """
 from __future__ import annotations
 
@@ -18,6 +18,7 @@ __all__ = ['Machine', 'Model']
 class Model(Player):
     """The model as a player: a fault is methods that are replaced."""
     text = 'the plain model'
+    machine = Machine
 
     def __init__(self, **changes: Callable[..., Any]) -> None:
         self.changes = changes
@@ -40,7 +41,7 @@ class Model(Player):
     def play(self, data: bytes) -> Tuple[Machine, bytes]:
         """Returns the machine after a capture, and the words that it printed."""
         version, parts = records(data)
-        machine = Machine(version == 3, **self.changes)
+        machine = self.machine(version == 3, **self.changes)
         printed: List[str] = []
         for kind, count, words in events(parts):
             self.event(machine, printed, kind, count, words)

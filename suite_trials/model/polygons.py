@@ -32,7 +32,7 @@ class Polygons(Pixels):
             if point and first >> 28 & 1:
                 color, at = words[at], at + 1
             texcoord = words[at + 1] if first >> 26 & 1 else 0
-            vertices.append(self.placed(Vertex(words[at], color, texcoord)))
+            vertices.append(Vertex(words[at], color, texcoord))
             extra.append(texcoord >> 16)
             at += 1 + (first >> 26 & 1)
         if first >> 26 & 1:
@@ -60,7 +60,7 @@ class Polygons(Pixels):
         return total // area
 
     def triangle(self, first: int, points: tuple[Vertex, ...], clut: int) -> None:
-        a, b, c = points
+        a, b, c = map(self.placed, points)
         area = edge(a, b, c.x, c.y)
         if area < 0:
             a, b, c, area = a, c, b, -area

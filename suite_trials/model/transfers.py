@@ -34,7 +34,10 @@ class Transfers(Registers):
     def copy(self, words: list[int]) -> None:
         target = self.places(self.moved_box(words[2], words[3]))
         for source in self.places(self.moved_box(words[1], words[3])):
-            self.plot(*next(target), self.get(*source))
+            self.plot(*next(target), self.copied(*source))
+
+    def copied(self, x: int, y: int) -> int:
+        return self.get(x, y)
 
     def load(self, words: list[int]) -> None:
         box = self.moved_box(words[1], words[2])
@@ -63,11 +66,14 @@ class Transfers(Registers):
     def read(self) -> int:
         if self.storing is None:
             return self.latch
-        values = [self.get(*place) for place in self.storing[self.stored:self.stored + 2]] + [self.padding()]
+        values = [self.stored_cell(*place) for place in self.storing[self.stored:self.stored + 2]] + [self.padding()]
         self.stored += 2
         if self.stored >= len(self.storing):
             self.storing = None
         return self.keep(values[0] | values[1] << 16)
+
+    def stored_cell(self, x: int, y: int) -> int:
+        return self.get(x, y)
 
     def keep(self, word: int) -> int:
         self.latch = word

@@ -1,6 +1,7 @@
 """Numbers of eleven bits, colours, vertices, and the value of an edge."""
 from __future__ import annotations
 
+import copy
 from typing import Tuple
 
 Box = Tuple[int, int, int, int]
@@ -18,12 +19,14 @@ def channels(color: int) -> Triple:
 
 class Vertex:
     def __init__(self, word: int, color: int = 0, texcoord: int = 0) -> None:
+        self.word = word
         self.x, self.y = signed(word), signed(word >> 16)
         self.color, self.u, self.v = channels(color), texcoord & 0xFF, texcoord >> 8 & 0xFF
 
     def moved(self, x: int, y: int) -> Vertex:
-        self.x, self.y = self.x + x, self.y + y
-        return self
+        other = copy.copy(self)
+        other.x, other.y = self.x + x, self.y + y
+        return other
 
 
 def edge(a: Vertex, b: Vertex, x: int, y: int) -> int:

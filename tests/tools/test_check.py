@@ -1,7 +1,6 @@
 """Reports on captures."""
 import json
 
-
 from tests import support
 from psxgpu import capture as c
 

@@ -104,7 +104,7 @@ class Conform(InFolder):
 
     def test_the_command_line(self):
         done = run_tool('conform', '--version')
-        self.assertRegex(done.stdout, r'^suite 1: \d+ tests, 0 withdrawn\n$')
+        self.assertRegex(done.stdout, r'^suite 2: \d+ tests, 0 withdrawn\n$')
         done = run_tool('conform')
         self.assertEqual((done.returncode, done.stderr.count('\n')), (2, 1))
 

@@ -72,10 +72,10 @@ class Bare(InFolder):
                               stdout=subprocess.PIPE, check=True, text=True)
         said = done.stdout.splitlines()
         failed = ['FAILED: ' + test.full_name for test in HELD if test.full_name not in passes]
-        self.assertEqual(said[:-1], ['FAILED: 012 OF 014 TESTS', 'WAITS TOO LONG: 000', *failed])
+        self.assertEqual(said[:-1], ['FAILED: 015 OF 017 TESTS', 'WAITS TOO LONG: 000', *failed])
         self.assertRegex(said[-1], r'overflow 0 early 0 .* hazards 0 waits 0$')
         found = events_of(self.read('ports'))
-        self.assertEqual((found.count(('gp0', 0x6000A000)), found.count(('gp0', 0x600000FF))), (2, 12))
+        self.assertEqual((found.count(('gp0', 0x6000A000)), found.count(('gp0', 0x600000FF))), (2, 15))
 
     def test_squares(self):
         lines = folder.write([*HELD, *chosen(['dma/blocks'])], self.path('out'), None)

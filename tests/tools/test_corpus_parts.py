@@ -1,4 +1,5 @@
 """Recordings cut into parts, and what was written on each of them joined."""
+import os
 
 from tests.tools.corpus_support import Corpus, film
 from psxgpu import capture as c
@@ -50,6 +51,39 @@ class Parts(Corpus):
             done = self.glued(word, part, b'')
             self.assertEqual((done.returncode, done.stdout), (2, ''))
             self.assertRegex(done.stderr, '^psxgpu corpus: part0: not what `%s` writes: ' % word)
+
+    def test_glue_in_order(self):
+        """The numbers of the names, and the events of `list` and `sums`."""
+        for number in (1, 2, 3):
+            self.write('%03d.capture.play' % number, b'00000001\nstatus 14802000\n')
+            self.write('list%d' % number, b'%d nop 00000000 -\n' % number)
+        self.write('x.play', b'status 14802000\n')
+        names = ['%03d.capture.play' % number for number in (1, 2, 3)]
+        self.expect(0, '00000001\n' * 3 + 'status 14802000\n', '', 'glue', 'play', *names)
+        for some, text in ((names[1:], '002.capture.play: part 2, expected part 1: one is missing, or they'),
+                           (names[::2], '003.capture.play: part 3, expected part 2'),
+                           ([names[1], names[0], names[2]], '002.capture.play: part 2, expected part 1'),
+                           (names[:2], '003.capture.play: part 3 is missing'),
+                           ([names[0], 'x.play'],
+                            'x.play: its name does not begin with the number of its part, as 002.')):
+            done = self.corpus('glue', 'play', *some)
+            self.assertEqual((done.returncode, done.stderr.count('\n')), (2, 1))
+            self.assertIn(text, done.stderr)
+        self.expect(0, '1 nop 00000000 -\n2 nop 00000000 -\n', '', 'glue', 'list', 'list1', 'list2')
+        done = self.corpus('glue', 'list', 'list2', 'list1')
+        self.assertEqual(done.returncode, 2)
+        self.assertIn('list1: event 1, after event 2 of the parts before it: not in order', done.stderr)
+
+    def test_split_of_others(self):
+        """A cut capture is named with its length, a snapshot is refused, and no part is left."""
+        film().save(self.path('a.capture'))
+        self.write('cut.capture', self.read('a.capture')[:-10])
+        self.write('a.snapshot', b'PSXGPUS1' + bytes(100))
+        for name, text in (('cut.capture', 'cut at byte %d' % len(self.read('cut.capture'))),
+                           ('a.snapshot', 'a snapshot: `split` takes a capture')):
+            self.expect(2, '', '%s: %s' % (name, text), 'split', name, '--parts', '2', '--into', 'parts', '--player',
+                        './small')
+            self.assertFalse(os.path.exists(self.path('parts')))
 
     def test_too_few_frames(self):
         film(1).save(self.path('a.capture'))

@@ -2,6 +2,7 @@
 import contextlib
 import importlib.util
 import io
+import lzma
 import os
 import unittest
 from unittest import mock
@@ -46,6 +47,23 @@ class Zstd(support.InFolder):
             with packing(self.path('c.zst')) as file:
                 file.write(CAPTURE)
         self.assertEqual(read_capture(self.path('c.zst')), CAPTURE)
+
+
+class Xz(support.InFolder):
+    """Streams of xz one after another, zeros after them, and other bytes."""
+
+    def test_streams(self):
+        data = CAPTURE + bytes(3000000)
+        one = lzma.compress(data)
+        for packed, whole in ((one, data), (one + one, data + data), (one + bytes(8) + one + bytes(4), data + data)):
+            with unpacked(self.write('a.xz', packed)) as file:
+                self.assertEqual(file.read(), whole)
+
+    def test_other_bytes(self):
+        one = lzma.compress(CAPTURE)
+        for packed in (one + b'x', one + bytes(3), one + 9 * b'abc', one[:-5], one + one[:20], one[:20]):
+            with self.assertRaisesRegex(Damaged, 'name: damaged: '):
+                read_capture(self.write('a.xz', packed), 'name')
 
 
 class Packing(support.InFolder):

@@ -16,7 +16,7 @@ use crate::ending::CutEnding;
 use crate::file::Draft;
 use crate::record::{allowed, put_bytes, record_size};
 use dev_io::{Sink, Source};
-use event_loop::write_at_pause;
+use event_loop::{next_event, write_at_pause};
 use gathered_out::OutputBuffer;
 use gpu_capture::{Event, EventReader, LIMIT, Stop, write_end};
 
@@ -54,7 +54,7 @@ pub(crate) fn write_rest<S: Source, K: Sink>(
             Err(event) => return CutEnding::WriteFailed { event },
         }
         number += 1;
-        match reader.next(source) {
+        match next_event(reader, source, &draft.buffered) {
             Ok(event) => match put_record(&mut draft, number, &event, out) {
                 Ok(()) => {}
                 Err(ending) => return ending,

@@ -12,7 +12,7 @@ use crate::file::{Draft, SlimFile};
 use crate::slim::{finish, take_event};
 use crate::waiting::Waiting;
 use dev_io::{Sink, Source};
-use event_loop::write_at_pause;
+use event_loop::{next_event, write_at_pause};
 use event_play::TALL_VERSION;
 use gathered_out::OutputBuffer;
 use gpu_capture::EventReader;
@@ -100,7 +100,7 @@ fn pass_on<S: Source, K: Sink>(window: &mut Waiting, source: &mut S, out: &mut K
                     Ok(offset) => since = offset,
                     Err(event) => return SlimEnding::WriteFailed { event },
                 }
-                next = reader.next(source);
+                next = next_event(&mut reader, source, &draft.buffered);
             }
             Err(stop) => return finish(window, stop, &mut draft, count, out),
         }

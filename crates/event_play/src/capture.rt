@@ -16,7 +16,7 @@ use crate::pause::{write_before_event, write_before_words};
 use crate::record_words::RecordWords;
 use crate::rig::Rig;
 use dev_io::{Sink, Source};
-use event_loop::end_after;
+use event_loop::{end_after, next_event};
 use gpu_capture::EventReader;
 use gpu_taps::Listener;
 use std::sync::ledger::Ledger;
@@ -59,7 +59,7 @@ impl Rig {
     {
         let mode = capture.mode;
         let mut words = RecordWords::new();
-        let mut next = capture.reader.next(capture.source);
+        let mut next = next_event(capture.reader, capture.source, lines.buffered);
         self.raise(capture.reader.version());
         let mut since = capture.reader.offset();
         'events: loop {
@@ -87,7 +87,7 @@ impl Rig {
                         Ok(offset) => since = offset,
                         Err(event) => return Ending::WriteFailed { event },
                     }
-                    next = capture.reader.next(capture.source);
+                    next = next_event(capture.reader, capture.source, lines.buffered);
                 }
                 Err(stop) => {
                     let given = InMode { value: stop, mode };

@@ -1,13 +1,15 @@
-"""The chapters, in the order of psx-spx. `polygon_textures` and `ordering_tables` add to the chapters of other modules."""
+"""The chapters, in the order of psx-spx. The modules of MORE add to the chapters of others."""
 from typing import Tuple
 
 from psxgpu.conformance.suite import Chapter
 
-from . import (area, blending, copies, cuts, display, dither, dma, fills, gouraud, lines, loads, mask, modulation, opcodes,
-               ordering_tables, polygon_textures, polygons, reads, rectangles, status, stores, tall, textures, turns, windows)
+from . import (across_pixels, across_places, across_sizes, across_slopes, across_windows, area, blending, copies,
+               cuts, display, dither, dma, fills, gouraud, large_transfers, lines, loads, mask, modulation, opcodes,
+               ordering_tables, polygon_textures, polygons, reads, rectangles, status, stores, tall, texels, textures,
+               transfers, turns, windows)
 
-__all__ = ['CHAPTERS', 'ordering_tables', 'polygon_textures']
-
-MODULES = (fills, loads, stores, copies, rectangles, polygons, gouraud, dither, modulation, blending, textures,
+MODULES = (fills, loads, stores, copies, rectangles, polygons, gouraud, dither, modulation, blending, textures, texels,
            windows, lines, area, mask, opcodes, cuts, status, reads, display, dma, turns, tall)
+MORE = (across_pixels, across_places, across_sizes, across_slopes, across_windows, large_transfers,
+        ordering_tables, polygon_textures, transfers)
 CHAPTERS: Tuple[Chapter, ...] = tuple(module.CHAPTER for module in MODULES)

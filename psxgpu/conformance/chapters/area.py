@@ -30,13 +30,13 @@ def cuts_lines(t: Draft) -> None:
     t.art(4, 5, 'xxx x.x x.x xxx', x=CELL)
 
 
-@CHAPTER.test('An area whose left edge is right of its right edge draws nothing.')
+@CHAPTER.test('An area whose left edge is right of its right edge draws nothing.', OWN)
 def empty_in_x(t: Draft) -> None:
     t.open(7, 0, 6, 511)
     t.packet(rectangle(RED, 0, 0, 16, 16), line([(0, 0), (9, 9)], RED))
 
 
-@CHAPTER.test('An area whose upper edge is below its lower edge draws nothing.')
+@CHAPTER.test('An area whose upper edge is below its lower edge draws nothing.', OWN)
 def empty_in_y(t: Draft) -> None:
     t.open(0, 7, 1023, 6)
     t.packet(rectangle(RED, 0, 0, 16, 16), line([(0, 0), (9, 9)], RED))

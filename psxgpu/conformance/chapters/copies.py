@@ -2,6 +2,7 @@
 from __future__ import annotations
 
 from psxgpu.capture import copy, drawing_offset, mask_setting
+from psxgpu.conformance.packets import COPY, marks
 from psxgpu.conformance.suite import OWN, Chapter, Draft
 
 CHAPTER = Chapter('copies', 'GP0(80h) Copy Rectangle (VRAM to VRAM)')
@@ -16,7 +17,7 @@ def moves_a_box(t: Draft) -> None:
     t.row(40, 51, SIX[3:])
 
 
-@CHAPTER.test('A source over the right edge continues at X 0 of the same row.')
+@CHAPTER.test('A source over the right edge continues at X 0 of the same row.', marks=marks(['wrap in X'], COPY))
 def source_wraps_right(t: Draft) -> None:
     t.given(1022, 4, 2, [0x1111, 0x2222])
     t.given(0, 4, 2, [0x3333, 0x4444])
@@ -24,14 +25,14 @@ def source_wraps_right(t: Draft) -> None:
     t.row(100, 9, [0x1111, 0x2222, 0x3333, 0x4444])
 
 
-@CHAPTER.test('A target over the right edge continues at X 0 of the same row.')
+@CHAPTER.test('A target over the right edge continues at X 0 of the same row.', marks=marks(['wrap in X'], COPY))
 def target_wraps_right(t: Draft) -> None:
     t.given(100, 4, 4, SIX[:4])
     t.packet(copy(100, 4, 1022, 9, 4, 1))
     t.row(1022, 9, SIX[:4])
 
 
-@CHAPTER.test('Source and target wrap from the last row to row 0.')
+@CHAPTER.test('Source and target wrap from the last row to row 0.', marks=marks(['wrap in Y'], COPY))
 def wraps_bottom(t: Draft) -> None:
     t.given(4, 511, 1, [0x1111])
     t.given(4, 0, 1, [0x2222])
@@ -40,7 +41,7 @@ def wraps_bottom(t: Draft) -> None:
     t.cell(9, 0, 0x2222)
 
 
-@CHAPTER.test('A width of 0 means 1024.')
+@CHAPTER.test('A width of 0 means 1024.', marks=marks(['size 0'], COPY))
 def width_0_is_1024(t: Draft) -> None:
     t.given(0, 4, 2, [0x1111, 0x2222])
     t.given(1022, 4, 2, [0x3333, 0x4444])
@@ -49,7 +50,7 @@ def width_0_is_1024(t: Draft) -> None:
     t.row(1022, 9, [0x3333, 0x4444])
 
 
-@CHAPTER.test('A height of 0 means 512.')
+@CHAPTER.test('A height of 0 means 512.', marks=marks(['size 0'], COPY))
 def height_0_is_512(t: Draft) -> None:
     t.given(4, 0, 1, [0x1111])
     t.given(4, 511, 1, [0x2222])
@@ -58,7 +59,7 @@ def height_0_is_512(t: Draft) -> None:
     t.cell(9, 511, 0x2222)
 
 
-@CHAPTER.test('A copy one cell to the left moves each cell once.')
+@CHAPTER.test('A copy one cell to the left moves each cell once.', OWN)
 def overlap_left(t: Draft) -> None:
     t.given(10, 4, 6, SIX)
     t.packet(copy(11, 4, 10, 4, 5, 1))
@@ -72,7 +73,7 @@ def overlap_right(t: Draft) -> None:
     t.row(10, 4, [0x1111] * 6)
 
 
-@CHAPTER.test('A copy one row up moves each row once.')
+@CHAPTER.test('A copy one row up moves each row once.', OWN)
 def overlap_up(t: Draft) -> None:
     t.given(10, 4, 2, SIX)
     t.packet(copy(10, 5, 10, 4, 2, 2))
@@ -89,7 +90,8 @@ def overlap_down(t: Draft) -> None:
         t.row(10, y, SIX[:2])
 
 
-@CHAPTER.test('X has ten bits, Y nine, the width ten and the height nine: what is above them is dropped.')
+@CHAPTER.test('X has ten bits, Y nine, the width ten and the height nine: what is above them is dropped.',
+              marks=marks(['bits above the coordinates'], COPY))
 def bits_above(t: Draft) -> None:
     t.given(10, 4, 2, SIX[:2])
     t.packet(0x80000000, 0xFE04FC0A, 0xFE09FC14, 0xFE01FC02)
@@ -112,7 +114,8 @@ def takes_bit_15(t: Draft) -> None:
     t.row(20, 4, [0x8001, 0x0002])
 
 
-@CHAPTER.test('A copy sets bit 15 where GP0(E6h) bit 0 is 1.', section='GP0(E6h) Mask Bit Setting')
+@CHAPTER.test('A copy sets bit 15 where GP0(E6h) bit 0 is 1.', section='GP0(E6h) Mask Bit Setting',
+              marks=marks(['mask set'], COPY))
 def forces_bit_15(t: Draft) -> None:
     t.given(10, 4, 2, [0x0001, 0x0002])
     t.before(mask_setting(force=True))
@@ -120,7 +123,8 @@ def forces_bit_15(t: Draft) -> None:
     t.row(20, 4, [0x8001, 0x8002])
 
 
-@CHAPTER.test('A copy leaves cells with bit 15 where GP0(E6h) bit 1 is 1.', section='GP0(E6h) Mask Bit Setting')
+@CHAPTER.test('A copy leaves cells with bit 15 where GP0(E6h) bit 1 is 1.', section='GP0(E6h) Mask Bit Setting',
+              marks=marks(['mask kept'], COPY))
 def keeps_bit_15(t: Draft) -> None:
     t.given(10, 4, 2, SIX[:2])
     t.given(20, 4, 2, [0x8001, 0x0002])

@@ -90,6 +90,14 @@ def reset_settings(t: Draft) -> None:
     t.stat(0, mask=3 << 11)
 
 
+@CHAPTER.test('After GP1(00h) each bit of the display mode is 0, and the status is 14802000h.',
+              section='1F801814h GPUSTAT GPU Status Register (R)')
+def reset_status(t: Draft) -> None:
+    for mode in (0xFF, 0x04, 0x08, 0x10, 0x20, 0x40, 0x80):
+        t.gp1(0x08000000 | mode, 0)
+        t.stat(0x14802000, mask=0x7FFFDFFF)
+
+
 @CHAPTER.test('GP1(00h) ends a load, a polyline and a store, too.', OWN)
 def reset_ends(t: Draft) -> None:
     for words in (load(0, 0, 8, 1, [0x1111] * 8)[:5], [0x48000000, 0, 0], store(0, 0, 4, 1)):

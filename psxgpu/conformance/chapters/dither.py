@@ -78,7 +78,7 @@ def flat_polygon(t: Draft) -> None:
     t.box(0, 0, 4, 4, 0x2108)
 
 
-@CHAPTER.test('A textured polygon of one colour is dithered after the modulation.', worked=FORMULA)
+@CHAPTER.test('A textured polygon of one colour is dithered after the modulation.', OWN, FORMULA)
 def textured_polygon(t: Draft) -> None:
     t.open()
     t.given(512, 0, 1, [0x2108])
@@ -87,7 +87,7 @@ def textured_polygon(t: Draft) -> None:
     grey(t, 0, 0, 4, 4, 8 * 8 * 0x8E // 128)
 
 
-@CHAPTER.test('A semi-transparent textured polygon is dithered, too.', worked=FORMULA)
+@CHAPTER.test('A semi-transparent textured polygon is dithered, too.', OWN, FORMULA)
 def semi_transparent_polygon(t: Draft) -> None:
     t.open()
     t.given(512, 0, 1, [0x2108])
@@ -96,7 +96,7 @@ def semi_transparent_polygon(t: Draft) -> None:
     grey(t, 0, 0, 4, 4, 8 * 8 * 0x8E // 128)
 
 
-@CHAPTER.test('A raw texture is not dithered.', OWN)
+@CHAPTER.test('A raw texture is not dithered.')
 def raw_texture(t: Draft) -> None:
     t.open()
     t.given(512, 0, 1, [0x2108])

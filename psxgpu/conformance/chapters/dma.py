@@ -40,7 +40,7 @@ def blocks(t: Draft) -> None:
     t.row(0, 0, [CELL] * 3)
 
 
-@CHAPTER.test('Mode 0: as many words as BCR bits 0 to 15 say.')
+@CHAPTER.test('Mode 0: as many words as BCR bits 0 to 15 say, also without CHCR bit 28.', OWN)
 def one_block(t: Draft) -> None:
     t.open()
     t.capture.ram(0x1000, dot(0), dot(1), dot(2))
@@ -78,7 +78,7 @@ def packet_over_starts(t: Draft) -> None:
     t.box(2, 2, 3, 3, CELL)
 
 
-@CHAPTER.test('Mode 0 with a BCR of 0 moves 10000h words.')
+@CHAPTER.test('Mode 0 with a BCR of 0 moves 10000h words, also without CHCR bit 28.', OWN)
 def one_block_of_0(t: Draft) -> None:
     t.open()
     t.capture.ram(0x1000 + 4 * 0xFFFE, dot(0), dot(1))
@@ -177,7 +177,7 @@ def chopping(t: Draft) -> None:
     t.cell(0, 0, CELL)
 
 
-@CHAPTER.test('Mode 0 goes into main memory backward, too.')
+@CHAPTER.test('Mode 0 goes into main memory backward, too, also without CHCR bit 28.', OWN)
 def one_block_backward_into_main_memory(t: Draft) -> None:
     t.given(0, 0, 4, [0x1111, 0x2222, 0x3333, 0x4444])
     t.packet(store(0, 0, 4, 1))

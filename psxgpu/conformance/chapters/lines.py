@@ -60,7 +60,8 @@ def ends(name: str, says: str, words: list[int], decides: str = PSX_SPX) -> None
 LINE = [0x48000000 | RED, 0, 3]
 ends('end-50005000', '50005000h ends a polyline.', LINE + [0x50005000])
 ends('end-55555555', '55555555h ends a polyline.', LINE + [0x55555555])
-ends('end-bits', 'Bits 28 to 31 and 12 to 15 alone make the end word: 5FFF5FFFh ends a polyline.', LINE + [0x5FFF5FFF])
+ends('end-bits', 'Bits 28 to 31 and 12 to 15 alone make the end word: 5FFF5FFFh ends a polyline.', LINE + [0x5FFF5FFF],
+     OWN)
 ends('end-in-place-of-a-color', 'A shaded polyline ends in the place of a colour.',
      [0x58000000 | RED, 0, RED, 3, 0x55555555])
 ends('no-end-before-two-vertices', 'The second vertex of a polyline is no end word: 50005000h is the vertex (0, 0).',

@@ -2,6 +2,7 @@
 from __future__ import annotations
 
 from psxgpu.capture import drawing_offset, load, mask_setting, rectangle
+from psxgpu.conformance.packets import LOADS, marks
 from psxgpu.conformance.suite import FORMULA, OWN, Chapter, Draft
 
 CHAPTER = Chapter('loads', 'GP0(A0h) Copy Rectangle (CPU to VRAM)')
@@ -48,14 +49,14 @@ def wraps_bottom(t: Draft) -> None:
         t.row(20, (510 + down) % 512, ramp(8)[2 * down:2 * down + 2])
 
 
-@CHAPTER.test('A width of 0 means 1024.', worked=FORMULA)
+@CHAPTER.test('A width of 0 means 1024.', worked=FORMULA, marks=marks(['size 0'], *LOADS))
 def width_0_is_1024(t: Draft) -> None:
     cells = ramp(1024)
     t.packet(0xA0000000, 6 << 16, 1 << 16, load(0, 0, 1024, 1, cells)[3:])
     t.row(0, 6, cells)
 
 
-@CHAPTER.test('A height of 0 means 512.', worked=FORMULA)
+@CHAPTER.test('A height of 0 means 512.', worked=FORMULA, marks=marks(['size 0'], *LOADS))
 def height_0_is_512(t: Draft) -> None:
     cells = ramp(512)
     t.packet(0xA0000000, 6, 1, load(0, 0, 512, 1, cells)[3:])
@@ -63,7 +64,8 @@ def height_0_is_512(t: Draft) -> None:
         t.cell(6, y, cells[y])
 
 
-@CHAPTER.test('X has ten bits, Y nine, the width ten and the height nine: what is above them is dropped.')
+@CHAPTER.test('X has ten bits, Y nine, the width ten and the height nine: what is above them is dropped.',
+              marks=marks(['bits above the coordinates'], *LOADS))
 def bits_above(t: Draft) -> None:
     t.packet(0xA0000000, 0xFE09 << 16 | 0xFC11, 0xFE01 << 16 | 0xFC02, 0x22221111)
     t.row(0x11, 9, [0x1111, 0x2222])

@@ -21,6 +21,7 @@ def one_word(opcodes: tuple[int, ...], decides: str, name: str, says: str) -> No
 one_word((0x00,), PSX_SPX, 'gp0-00', '00h is one word that does nothing.')
 one_word((0x01,), PSX_SPX, 'gp0-01', '01h is one word, and no cell changes.')
 one_word(tuple(range(0x03, 0x1F)), OWN, 'gp0-03-to-1e', '03h to 1Eh are each one word that does nothing.')
+one_word(tuple(range(0x04, 0x1F)), PSX_SPX, 'gp0-04-to-1e', '04h to 1Eh are each one word that does nothing.')
 one_word((0xE0, *range(0xE7, 0x100)), OWN, 'gp0-e0-e7-to-ff', 'E0h and E7h to FFh are each one word that does nothing.')
 
 

@@ -36,7 +36,7 @@ covers('steep', 'An edge between whole cells covers those whose corner is inside
        [(1, 0), (4, 9), (1, 9)], '..... .x... .x... .x... .xx.. .xx.. .xx.. .xxx. .xxx.', OWN)
 covers('one-cell', 'A triangle of one cell\'s size draws its upper left cell alone.',
        [(3, 3), (4, 3), (3, 4)], '.... .... .... ...x', OWN)
-covers('no-area', 'Three vertices on a line draw nothing.', [(1, 1), (4, 4), (8, 8)], '.', PSX_SPX)
+covers('no-area', 'Three vertices on a line draw nothing.', [(1, 1), (4, 4), (8, 8)], '.', OWN)
 covers('negative', 'Vertices left of and above video memory: what is inside is drawn.',
        [(-2, -2), (4, -2), (-2, 4)], 'xx x', OWN)
 

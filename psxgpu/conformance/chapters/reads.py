@@ -30,7 +30,7 @@ info('corner-of-19-bits', 'A corner of the drawing area has 19 bits.', [0xE4FFFF
 info('offset-of-22-bits', 'The drawing offset has 22 bits.', [0xE5FFFFFF], 5, 0x003FFFFF, 0xFFFFFFFF)
 
 
-@CHAPTER.test('0, 1, 6 and 9 leave what the last information was.', OWN)
+@CHAPTER.test('0, 1, 6 and 9 leave what the last information was.')
 def others_leave_it(t: Draft) -> None:
     t.gp1(information(7))
     for index in (0, 1, 6, 9, 15):
@@ -78,7 +78,7 @@ def reset_keeps_it(t: Draft) -> None:
     t.read(2)
 
 
-@CHAPTER.test('The lowest four bits of GP1(10h) choose the information.', OWN)
+@CHAPTER.test('The lowest four bits of GP1(10h) choose the information.')
 def index_of_four_bits(t: Draft) -> None:
     t.gp1(0x10FFFFF7)
     t.read(2)

@@ -2,6 +2,7 @@
 from __future__ import annotations
 
 from psxgpu.capture import rectangle, store
+from psxgpu.conformance.packets import STORES, marks
 from psxgpu.conformance.suite import OWN, Chapter, Draft
 
 CHAPTER = Chapter('stores', 'GP0(C0h) Copy Rectangle (VRAM to CPU)')
@@ -45,7 +46,8 @@ def wraps_bottom(t: Draft) -> None:
     t.read(0x22221111)
 
 
-@CHAPTER.test('A width of 0 means 1024: the 512th word has the last two cells of the row.')
+@CHAPTER.test('A width of 0 means 1024: the 512th word has the last two cells of the row.',
+              marks=marks(['size 0'], *STORES))
 def width_0_is_1024(t: Draft) -> None:
     t.given(0, 3, 2, [0x1111, 0x2222])
     t.given(1022, 3, 2, [0x3333, 0x4444])
@@ -53,7 +55,7 @@ def width_0_is_1024(t: Draft) -> None:
     t.read(0x22221111, *[0] * 510, 0x44443333)
 
 
-@CHAPTER.test('A height of 0 means 512: the 256th word has the last two rows.')
+@CHAPTER.test('A height of 0 means 512: the 256th word has the last two rows.', marks=marks(['size 0'], *STORES))
 def height_0_is_512(t: Draft) -> None:
     t.given(3, 0, 1, [0x1111])
     t.given(3, 511, 1, [0x2222])
@@ -61,7 +63,8 @@ def height_0_is_512(t: Draft) -> None:
     t.read(0x00001111, *[0] * 254, 0x22220000)
 
 
-@CHAPTER.test('X has ten bits, Y nine, the width ten and the height nine: what is above them is dropped.')
+@CHAPTER.test('X has ten bits, Y nine, the width ten and the height nine: what is above them is dropped.',
+              marks=marks(['bits above the coordinates'], *STORES))
 def bits_above(t: Draft) -> None:
     t.given(5, 3, 2, [0x1111, 0x2222])
     t.packet(0xC0000000, 0xFE03FC05, 0xFE01FC02)

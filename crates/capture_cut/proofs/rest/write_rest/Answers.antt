@@ -21,13 +21,13 @@ events-preserved g c = record {
       let at = c.events.invariant.came cut before heard steps rig first in
       let paused = pauses_on _ _ _ _ _ c.events.draft c.write_at_pause.new.buffered _ c.in-Ok.offset _
       (g.K.Sink.held c.write_at_pause.new.out) at c.in-Ok.ensures.ok in
-      came_on _ _ _ _ _ _ _ _ paused.comes _ _ _ paused.near c.in-Ok-next.event
-      c.in-Ok-next.ensures.takes c.in-Ok-next.ensures.version _ c.put_record.new.draft refl
+      came_on _ _ _ _ _ _ _ _ paused.comes _ _ _ paused.near c.in-Ok-next_event.event
+      c.in-Ok-next_event.ensures.takes c.in-Ok-next_event.ensures.gives.version _ c.put_record.new.draft refl
       c.in-Ok-put_record.ensures.ok c.in-Ok-put_record.ensures.allowed;
-  ready = c.in-Ok-next.ensures.keeps.runs_on;
+  ready = c.in-Ok-next_event.ensures.keeps.runs_on;
   fits = c.in-Ok-put_record.ensures.room;
-  room = omega (arith, c.events.invariant.room, c.in-Ok-next.ensures.forward);
-  read_faults = omega (arith, c.events.invariant.read_faults, c.in-Ok-next.ensures.faults);
+  room = omega (arith, c.events.invariant.room, c.in-Ok-next_event.ensures.gives.forward);
+  read_faults = omega (arith, c.events.invariant.read_faults, c.in-Ok-next_event.ensures.faults);
   write_faults =
       let was = c.events.invariant.write_faults in
       omega (arith, was, c.in-Ok.ensures.causes.kept, c.in-Ok-put_record.ensures.known.kept);
@@ -44,17 +44,17 @@ returns-in-Err-put_record-clause-ends g c = λ cut before heard steps rig first.
     let at = c.events.invariant.came cut before heard steps rig first in
     let paused = pauses_on _ _ _ _ _ c.events.draft c.write_at_pause.new.buffered _ c.in-Ok.offset _
     (g.K.Sink.held c.write_at_pause.new.out) at c.in-Ok.ensures.ok in
-    record_ends _ _ _ _ _ _ _ _ paused.comes _ _ _ paused.near c.in-Ok-next.event
-    c.in-Ok-next.ensures.takes c.in-Ok-next.ensures.version _ c.in-Err-put_record.ending refl
+    record_ends _ _ _ _ _ _ _ _ paused.comes _ _ _ paused.near c.in-Ok-next_event.event
+    c.in-Ok-next_event.ensures.takes c.in-Ok-next_event.ensures.gives.version _ c.in-Err-put_record.ending refl
     c.in-Err-put_record.ensures.ends
 
-pub returns-in-Err-next-clause-ends : goal.returns-in-Err-next-clause-ends
-returns-in-Err-next-clause-ends g c = λ cut before heard steps rig first.
+pub returns-in-Err-next_event-clause-ends : goal.returns-in-Err-next_event-clause-ends
+returns-in-Err-next_event-clause-ends g c = λ cut before heard steps rig first.
     let at = c.events.invariant.came cut before heard steps rig first in
     let paused = pauses_on _ _ _ _ _ c.events.draft c.write_at_pause.new.buffered _ c.in-Ok.offset _
     (g.K.Sink.held c.write_at_pause.new.out) at c.in-Ok.ensures.ok in
-    reading_ends _ _ _ _ _ _ _ _ paused.comes _ _ _ paused.near c.in-Err-next.stop
-    (c.in-Err-next.ensures.stop c.events.invariant.ready) _ c.end_reading.result refl c.end_reading.ensures.ends
+    reading_ends _ _ _ _ _ _ _ _ paused.comes _ _ _ paused.near c.in-Err-next_event.stop
+    (c.in-Err-next_event.ensures.stop c.events.invariant.ready) _ c.end_reading.result refl c.end_reading.ensures.ends
 
 pub returns-in-Err-put_record-clause-writes : goal.returns-in-Err-put_record-clause-writes
 returns-in-Err-put_record-clause-writes g c =

@@ -51,33 +51,37 @@ returns-in-Err-write_at_pause-clause-ends g c =
     c.in-Err-write_at_pause.ensures.failed
 
 pub events-smaller : goal.events-smaller
-events-smaller g c = falls_on _ _ _ c.next-next-in-Ok.result c.in-Ok.event c.in-Ok.is c.next-next-in-Ok.ensures.forward
+events-smaller g c =
+    falls_on _ _ _ c.next_event-next-in-Ok.result c.in-Ok.event c.in-Ok.is
+    c.next_event-next-in-Ok.ensures.gives.forward
 
 pub events-preserved : goal.events-preserved
 events-preserved g c =
     let at = awaits_is _ _ _ _ _ _ _ _ _ _ c.in-Ok.is c.events.invariant.awaits in
     let running = rw c.in-Ok.is at c.events.invariant.running in
     record {
-      awaits = goes_on _ _ _ _ _ _ _ _ c.in-Ok.event at c.next-next-in-Ok.new.self.progress
-          (g.S.Source.left c.next-next-in-Ok.new.source) (g.K.Sink.held c.write_at_pause.new.out)
-          (g.S.Source.faults c.next-next-in-Ok.new.source)
-          c.take_event.new.window _ c.in-Ok-write_at_pause.offset c.next-next-in-Ok.result
+      awaits = goes_on _ _ _ _ _ _ _ _ c.in-Ok.event at c.next_event-next-in-Ok.new.reader.progress
+          (g.S.Source.left c.next_event-next-in-Ok.new.source) (g.K.Sink.held c.write_at_pause.new.out)
+          (g.S.Source.faults c.next_event-next-in-Ok.new.source)
+          c.take_event.new.window _ c.in-Ok-write_at_pause.offset c.next_event-next-in-Ok.result
           (paused_on _ _ _ _ _ _ _ _ c.in-Ok.event at c.take_event.new.window c.take_event.new.draft
           c.write_at_pause.new.buffered c.in-Ok-write_at_pause.offset (g.K.Sink.held c.take_event.new.out)
           (g.K.Sink.held c.write_at_pause.new.out) (c.in-Ok-take_event.ensures.ok _ at.came)
           (c.in-Ok-take_event.ensures.late _ at.least at.came at.from) c.in-Ok-write_at_pause.ensures.ok)
-          c.next-next-in-Ok.ensures.takes c.next-next-in-Ok.ensures.version (c.next-next-in-Ok.ensures.stop running);
+          c.next_event-next-in-Ok.ensures.takes c.next_event-next-in-Ok.ensures.gives.version
+          (c.next_event-next-in-Ok.ensures.stop running);
       file = c.in-Ok-take_event.ensures.room;
       room = omega (
         arith,
-        falls_on _ _ _ c.next-next-in-Ok.result c.in-Ok.event c.in-Ok.is c.next-next-in-Ok.ensures.forward,
+        falls_on _ _ _ c.next_event-next-in-Ok.result c.in-Ok.event c.in-Ok.is
+            c.next_event-next-in-Ok.ensures.gives.forward,
         c.events.invariant.room,
       );
-      running = c.next-next-in-Ok.ensures.keeps.runs_on;
-      read_cause = IfErr-weaker c.next-next-in-Ok.result _ _
+      running = c.next_event-next-in-Ok.ensures.keeps.runs_on;
+      read_cause = IfErr-weaker c.next_event-next-in-Ok.result _ _
           (λ stop may fault. omega (arith, may fault, c.events.invariant.read_faults))
-          (c.next-next-in-Ok.ensures.cause running);
-      read_faults = omega (arith, c.events.invariant.read_faults, c.next-next-in-Ok.ensures.faults);
+          (c.next_event-next-in-Ok.ensures.cause running);
+      read_faults = omega (arith, c.events.invariant.read_faults, c.next_event-next-in-Ok.ensures.faults);
       write_faults = omega (
         arith,
         c.events.invariant.write_faults,

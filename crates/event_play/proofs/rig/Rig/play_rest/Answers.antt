@@ -16,12 +16,12 @@ events-init g c = record {
       starts _ s c.args.self.now.played _ _ _ _ _ _ _ _ _ _ c.requires.empty c.offset-since.ensures
       (rw c.version.ensures.value at c.raise.ensures (from_state s c.args.self.now.played)
       (record { state = e; played = refl }))
-      c.next-next.result c.next-next.ensures.takes c.next-next.ensures.version
-      (c.next-next.ensures.stop c.requires.stop);
-  running = c.next-next.ensures.keeps.runs_on;
-  known = c.next-next.ensures.version;
-  read_cause = c.next-next.ensures.cause c.requires.stop;
-  read_faults = c.next-next.ensures.faults;
+      c.next_event-next.result c.next_event-next.ensures.takes c.next_event-next.ensures.gives.version
+      (c.next_event-next.ensures.stop c.requires.stop);
+  running = c.next_event-next.ensures.keeps.runs_on;
+  known = c.next_event-next.ensures.gives.version;
+  read_cause = c.next_event-next.ensures.cause c.requires.stop;
+  read_faults = c.next_event-next.ensures.faults;
   write_faults = omega arith;
   reader = refl;
   source = refl;
@@ -129,8 +129,8 @@ returns-in-Err-write_before_event-clause-writes g c =
 
 pub events-smaller : goal.events-smaller
 events-smaller g c =
-    left_less _ _ _ _ c.next-next-in-Ok.result c.in-Ok.event c.in-Ok.is c.in_default-stopped.ensures.goes_on.forward
-    c.next-next-in-Ok.ensures.forward
+    left_less _ _ _ _ c.next_event-next-in-Ok.result c.in-Ok.event c.in-Ok.is
+    c.in_default-stopped.ensures.goes_on.forward c.next_event-next-in-Ok.ensures.gives.forward
 
 pub events-preserved : goal.events-preserved
 events-preserved g c =
@@ -150,19 +150,19 @@ events-preserved g c =
           (g.K.Sink.held c.write_before_event.new.lines.out.now)
           went (rw read.goes_on.version started) c.in-Ok-write_before_event.ensures.ok in
           reads _ _ _ _ _ _ _ _ _ _ again.reached (rw read.goes_on.version started) again.near
-          c.next-next-in-Ok.result c.next-next-in-Ok.ensures.takes
-          (c.next-next-in-Ok.ensures.stop c.in_default-stopped.ensures.runs_on);
-      running = c.next-next-in-Ok.ensures.keeps.runs_on;
-      known = c.next-next-in-Ok.ensures.version;
-      read_cause = IfErr-weaker c.next-next-in-Ok.result _ _
+          c.next_event-next-in-Ok.result c.next_event-next-in-Ok.ensures.takes
+          (c.next_event-next-in-Ok.ensures.stop c.in_default-stopped.ensures.runs_on);
+      running = c.next_event-next-in-Ok.ensures.keeps.runs_on;
+      known = c.next_event-next-in-Ok.ensures.gives.version;
+      read_cause = IfErr-weaker c.next_event-next-in-Ok.result _ _
           (λ stop may fault.
           omega (arith, may fault, c.events.invariant.read_faults, c.read-stopped.ensures.faults.kept))
-          (c.next-next-in-Ok.ensures.cause c.in_default-stopped.ensures.runs_on);
+          (c.next_event-next-in-Ok.ensures.cause c.in_default-stopped.ensures.runs_on);
       read_faults = omega (
         arith,
         c.events.invariant.read_faults,
         c.read-stopped.ensures.faults.kept,
-        c.next-next-in-Ok.ensures.faults,
+        c.next_event-next-in-Ok.ensures.faults,
       );
       write_faults = omega (
         arith,
