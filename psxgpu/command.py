@@ -95,7 +95,7 @@ def status_of(module: Command, name: str, words: Optional[Sequence[str]]) -> Opt
         check(roles)
         is_taken = takes_standard_output(roles)
         texts: ContextManager[object] = contextlib.redirect_stdout(sys.stderr) if is_taken else contextlib.nullcontext()
-        with texts:
+        with texts, stoppable():        # until then nothing has to be removed
             status = module.run(found)
         return status
     except SystemExit as end:       # argparse: the help, or arguments that it does not know
@@ -119,10 +119,9 @@ def guarded(name: str, work: Callable[[], Optional[int]]) -> int:
         codecs.register_error('psxgpu', as_it_may_be)
         sys.stdout.reconfigure(errors='psxgpu')
     try:
-        with stoppable():
-            status = work() or SAME
-            if sys.stdout is not None:
-                sys.stdout.flush()
+        status = work() or SAME
+        if sys.stdout is not None:
+            sys.stdout.flush()
         return status
     except ToolError as error:
         reason = str(error)

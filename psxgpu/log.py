@@ -6,7 +6,7 @@ from psxgpu.capture import Capture
 from psxgpu.command import ToolError, read_whole
 from psxgpu.stream import GP0
 
-MOST_GATHERED, TALL_DUMP = 65536, 2097152
+MOST_GATHERED, TALL_DUMP, MOST_LINE = 65536, 2097152, 1 << 24
 USES = {'gp0': 'gp0 WORD ..', 'gp1': 'gp1 WORD', 'read': 'read [N]', 'turn': 'turn [N]', 'skip': 'skip [N]',
         'stat': 'stat', 'ram': 'ram ADDRESS WORD ..', 'dma': 'dma 2|6 MADR BCR CHCR', 'begin': 'begin MADR BCR CHCR',
         'version': 'version 1|2|3', 'vram': 'vram FILE', 'settings': 'settings E1 E2 E3 E4 E5 E6',
@@ -135,7 +135,9 @@ def from_log(lines: Iterable[str], records: IO[bytes]) -> Log:
 
 def lines_of(file: IO[bytes], name: str) -> Iterator[str]:
     """Returns the lines of a log. Raises ToolError at one that is not ASCII."""
-    for at, line in enumerate(file, 1):
+    for at, line in enumerate(iter(lambda: file.readline(MOST_LINE), b''), 1):
+        if len(line) == MOST_LINE:
+            raise ToolError('%s: line %d has more than %d characters' % (name, at, MOST_LINE))
         try:
             yield line.decode('ascii')
         except UnicodeDecodeError as error:
