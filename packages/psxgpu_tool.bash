@@ -19,6 +19,10 @@ _psxgpu() {
         mapfile -t COMPREPLY < <(compgen -W 'agree audit bisect check compare conform corpus diff film first from-dump from-log heat join mend packets picture reduce selftest textures to-dump to-exe trim' -- "$word")
     elif [ "$COMP_CWORD" -eq 2 ] && [ "${COMP_WORDS[1]}" = corpus ]; then
         mapfile -t COMPREPLY < <(compgen -W 'record check join split glue' -- "$word")
+    elif [[ ${COMP_WORDS[COMP_CWORD-1]} == @(--only|--ignore|--name|--blanks|--bits) ]]; then
+        mapfile -t COMPREPLY < <(compgen -W "$(psxgpu help "${COMP_WORDS[1]}" "${COMP_WORDS[COMP_CWORD-1]}" 2> /dev/null)" -- "$word")
+    elif [ "$COMP_CWORD" -eq 2 ] && [ "${COMP_WORDS[1]}" = help ]; then
+        mapfile -t COMPREPLY < <(compgen -W "$(psxgpu help 2> /dev/null | sed -n 's/^  \([a-z-]*\) .*/\1/p')" -- "$word")
     elif [[ $word == -* ]]; then
         local options
         options=$(psxgpu "${COMP_WORDS[1]}" --help 2> /dev/null | grep -oE -e '(^ +|, )--?[a-z][a-z-]*' | tr -d ' ,')

@@ -5,16 +5,18 @@ A tool is a module of `psxgpu.commands` with a text (`__doc__`), `arguments(pars
 2 an error. An error is one line on standard error: the tool, the file if there is one, and the reason.
 """
 import argparse
+import codecs
 import contextlib
 import io
 import os
 import re
 import sys
 from types import ModuleType
-from typing import IO, BinaryIO, Callable, Iterator, NoReturn, Optional, Protocol, Sequence, cast
+from typing import IO, Any, BinaryIO, Callable, ContextManager, Iterator, NoReturn, Optional, Protocol, Sequence, Tuple, Union, cast
 
 from psxgpu import progress
-from psxgpu.output import write_whole, writing
+from psxgpu.output import check, roles_in, silence, takes_standard_output, write_whole, writing
+from psxgpu.stopping import FIRST_STATUS, Stopped, stoppable
 from psxgpu.errors import ToolError, named, reason_of, title
 
 __all__ = ['BLOCK', 'DIFFERENT', 'SAME', 'TROUBLE', 'Command', 'Readable', 'ToolError', 'decimal', 'guarded', 'main',
@@ -22,6 +24,7 @@ __all__ = ['BLOCK', 'DIFFERENT', 'SAME', 'TROUBLE', 'Command', 'Readable', 'Tool
 
 SAME, DIFFERENT, TROUBLE = 0, 1, 2
 BLOCK = 1 << 20
+LITERAL = '\0'      # begins an argument after `--` while the arguments are parsed: no argument has this character
 
 
 class Readable(Protocol):
@@ -58,32 +61,69 @@ class Parser(argparse.ArgumentParser):
 
     def error(self, message: str) -> NoReturn:
         """Raises ToolError."""
-        raise ToolError('%s: `%s --help` explains the arguments' % (message, self.prog))
+        raise ToolError('%s: `%s --help` explains the arguments' % (message.replace(LITERAL, ''), self.prog))
+
+    def _get_value(self, action: argparse.Action, text: str) -> Any:
+        """Returns the value of an argument."""
+        return super()._get_value(action, text[len(LITERAL):] if text.startswith(LITERAL) else text)
+
+    def parsed(self, words: Sequence[str]) -> argparse.Namespace:
+        """Returns the arguments. Options may come after other arguments; after `--` there are none."""
+        words = list(words)
+        if '--' in words:
+            at = words.index('--')
+            words[at:] = [LITERAL + word for word in words[at + 1:]]
+        return self.parse_intermixed_args(words)
 
 
-def status_of(module: Command, name: str, words: Optional[Sequence[str]]) -> Optional[int]:
-    """Runs a tool. Returns its status."""
+def parser_of(module: Union[Command, ModuleType], name: str) -> Parser:
+    """Returns the parser of a tool."""
     first, _, rest = (module.__doc__ or '').partition('\n')
     parser = Parser(prog=name, description=first, epilog=rest.strip('\n'), add_help=False,
                     formatter_class=argparse.RawDescriptionHelpFormatter)
     parser.add_argument('-h', '--help', action=Help, nargs=0, help='this text')
-    module.arguments(parser)
+    cast(Command, module).arguments(parser)
+    return parser
+
+
+def status_of(module: Command, name: str, words: Optional[Sequence[str]]) -> Optional[int]:
+    """Runs a tool. Returns its status. If an output goes to standard output, its texts go to standard error."""
+    parser = parser_of(module, name)
     try:
-        return module.run(parser.parse_intermixed_args(words))
+        found = parser.parsed(sys.argv[1:] if words is None else words)
+        roles = list(roles_in(found))
+        check(roles)
+        is_taken = takes_standard_output(roles)
+        texts: ContextManager[object] = contextlib.redirect_stdout(sys.stderr) if is_taken else contextlib.nullcontext()
+        with texts:
+            status = module.run(found)
+        return status
     except SystemExit as end:       # argparse: the help, or arguments that it does not know
         return cast(Optional[int], end.code)
 
 
+def as_it_may_be(error: UnicodeError) -> Tuple[Union[str, bytes], int]:
+    """Handles what standard output cannot show: a byte of a name that is not UTF-8 is written as it is, another character
+    as an escape."""
+    assert isinstance(error, UnicodeEncodeError)
+    character = error.object[error.start]
+    if '\udc80' <= character <= '\udcff':
+        return bytes([ord(character) & 0xFF]), error.start + 1
+    return ascii(character)[1:-1], error.start + 1
+
+
 def guarded(name: str, work: Callable[[], Optional[int]]) -> int:
     """Does the work. Returns its status. No failure of a file ends in a traceback."""
-    reason: Optional[str] = None
+    reason, status = '', TROUBLE
     if isinstance(sys.stdout, io.TextIOWrapper):
-        sys.stdout.reconfigure(errors='surrogateescape')    # names of files need not be UTF-8
+        codecs.register_error('psxgpu', as_it_may_be)
+        sys.stdout.reconfigure(errors='psxgpu')
     try:
-        status = work()
-        if sys.stdout is not None:
-            sys.stdout.flush()
-        return status or SAME
+        with stoppable():
+            status = work() or SAME
+            if sys.stdout is not None:
+                sys.stdout.flush()
+        return status
     except ToolError as error:
         reason = str(error)
     except BrokenPipeError:
@@ -92,15 +132,16 @@ def guarded(name: str, work: Callable[[], Optional[int]]) -> int:
         reason = reason_of(error)
     except MemoryError:
         reason = 'memory is short'
-    except KeyboardInterrupt:
-        reason = 'interrupted'
+    except KeyboardInterrupt as stopped:
+        status = FIRST_STATUS + getattr(stopped, 'number', Stopped().number)
+        reason = str(stopped) or str(Stopped())
     # What can no longer be written is not tried again when Python ends.
     with contextlib.suppress(OSError, AttributeError):
         sys.stdout.flush()
-    os.dup2(os.open(os.devnull, os.O_WRONLY), 1)
+    silence(1)
     if reason and sys.stderr is not None:
-        print('%s: %s' % (name, reason), file=sys.stderr)
-    return TROUBLE
+        print('%s: %s' % (name, ' '.join(reason.split('\n'))), file=sys.stderr)
+    return status if status > TROUBLE else TROUBLE
 
 
 def main(module: ModuleType, words: Optional[Sequence[str]] = None, name: Optional[str] = None) -> int:

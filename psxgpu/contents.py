@@ -2,9 +2,10 @@
 import contextlib
 import re
 import tempfile
-from typing import Dict, Iterator, List, Optional, Tuple
+from typing import Dict, Iterator, List, NamedTuple, Optional
 
 from psxgpu.command import Readable, ToolError, reading
+from psxgpu.errors import counted
 from psxgpu.players import player
 from psxgpu.players.flat import flattened
 from psxgpu.snapshot import unfinished
@@ -54,15 +55,13 @@ def beginning(path: str, name: str, version: int, events: int) -> Iterator[str]:
         yield copy.name
 
 
-def packets_line(program: str, path: str) -> str:
-    """Returns how many notes of each class."""
+def packets_of(program: str, path: str) -> Dict[str, int]:
+    """Returns how many notes of each class there are."""
     said = player.answer(program, ['report'], path)
     report_line = TAP.match(said)
     if not report_line:
         raise ToolError('%s report: not a report: %r' % (program, said[:40]))
-    counts = report_line[1].decode().split()
-    found = ['%s %s' % (name, count) for count, name in zip(counts, CLASSES) if count != '0']
-    return 'packets: ' + (', '.join(found) or 'none')
+    return {name: int(count) for count, name in zip(report_line[1].split(), CLASSES) if count != b'0'}
 
 
 def unfinished_at(program: str, path: str, events: int) -> List[str]:
@@ -78,30 +77,66 @@ def events_of(file: Readable, name: str) -> int:
     return sum(count_of(kind, count) for kind, count, _ in Stream(file, name))
 
 
-def slim_line(program: str, path: str, name: str) -> str:
+class Slim(NamedTuple):
+    """How many events `slim` leaves out of how many, and whether these are of the flat capture."""
+    left_out: int
+    events: int
+    is_flattened: bool
+
+
+def slimmed(program: str, path: str, name: str) -> Slim:
     """Returns how many events `slim` leaves out."""
     with flattened(path, program) as flat:
         with reading(flat) as file:
             before = events_of(file, name)
         with player.playing(program, ['slim'], flat) as run:
             left = events_of(run.out, name)
-    return 'slim leaves out: %d of %d events%s' % (before - left, before, ' of the flat capture' * (flat != path))
+    return Slim(before - left, before, flat != path)
 
 
-def report(path: str, name: str, program: str) -> Tuple[List[str], bool]:
-    """Returns the lines of the report, and whether all is well."""
+class Contents(NamedTuple):
+    """What a capture contains. `refused`: the line of psxgpu_tool, if it refuses the capture; then what follows is of the
+    `good` events before."""
+    records: Count
+    refused: str
+    good: int
+    packets: Dict[str, int]
+    unfinished: List[str]
+    slim: Slim
+
+    @property
+    def is_well(self) -> bool:
+        """Whether nothing is refused or unfinished."""
+        return not (self.refused or self.unfinished)
+
+    def lines(self) -> List[str]:
+        """Returns the report."""
+        lines = self.records.lines()
+        if self.refused:
+            lines.append('refused: %s' % self.refused)
+            lines.append('what follows is of the %s before' % counted(self.good, 'event'))
+        lines.append('packets: ' + (', '.join('%s %d' % pair for pair in self.packets.items()) or 'none'))
+        lines += ['not finished: %s' % line for line in self.unfinished] or ['not finished: nothing']
+        return lines + ['slim leaves out: %d of %s%s' % (
+            self.slim.left_out, counted(self.slim.events, 'event'), ' of the flat capture' * self.slim.is_flattened)]
+
+    def as_object(self) -> Dict[str, object]:
+        """Returns the same for JSON."""
+        return dict(version=self.records.version, events=self.records.events, frames=self.records.frames,
+                    kinds={KINDS[kind]: count for kind, count in sorted(self.records.by_kind.items())},
+                    refused=self.refused, good=self.good, packets=self.packets, unfinished=self.unfinished,
+                    slim=self.slim._asdict())
+
+
+def contents(path: str, name: str, program: str) -> Contents:
+    """Returns what a capture contains."""
     count = Count(path, name)
     refused = player.refusal(program, path)
     fault = re.search(r' at event (\d+)', refused)
     good = min(count.events, int(fault[1]) - 1) if fault else count.events
-    lines = count.lines()
     with contextlib.ExitStack() as stack:
         if refused:
-            lines.append('refused: %s' % refused)
-            lines.append('what follows is of the %d events before' % good)
             path = stack.enter_context(beginning(path, name, count.version, good))
-        open_ends = unfinished_at(program, path, good)
-        lines += [packets_line(program, path)]
-        lines += ['not finished: %s' % line for line in open_ends] or ['not finished: nothing']
-        lines.append(slim_line(program, path, name))
-    return lines, not (refused or open_ends)
+        found = Contents(count, refused, good, packets_of(program, path), unfinished_at(program, path, good),
+                         slimmed(program, path, name))
+    return found

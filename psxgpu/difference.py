@@ -83,14 +83,14 @@ class Difference:
                 texts.append('%s: %d' % (band, count))
         return ', '.join(texts)
 
-    def lines(self) -> List[str]:
-        """Returns the difference as lines of text."""
+    def lines(self, names: Tuple[str, str] = ('ours', 'theirs')) -> List[str]:
+        """Returns the difference as lines of text. `names`: of the two grids."""
         if not self.count:
             return ['equal']
         x, y = self.places[0]
         one, other = (grid.text(grid.cell(grid.row(y), x)) for grid in (self.ours, self.theirs))
         columns = [x for x, _ in self.places]
-        return ['first differing cell: (%d, %d): %s and %s' % (x, y, one, other),
+        return ['first differing cell: (%d, %d): %s %s, %s %s' % (x, y, names[0], one, names[1], other),
                 'cells that differ: %d' % self.count,
                 'their box: %d %d %d %d' % (min(columns), y, max(columns), self.places[-1][1]),
                 'by steps: ' + self.bands()]

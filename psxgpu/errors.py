@@ -24,3 +24,8 @@ def reason_of(error: OSError) -> str:
     """Returns the file and the reason of a failure, in one line."""
     name = error.filename if error.filename is not None else 'standard output'
     return '%s: %s' % (name, error.strerror or error)
+
+
+def counted(count: int, what: str, ending: str = 's') -> str:
+    """Returns a number with its noun. `ending`: of the plural."""
+    return '%d %s%s' % (count, what, '' if count == 1 else ending)

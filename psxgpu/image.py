@@ -38,9 +38,14 @@ def ppm(image: Image) -> bytes:
     return b'P6\n%d %d\n255\n' % (image.width, image.height) + image.pixels
 
 
+def encoded(path: str, image: Image) -> bytes:
+    """Returns the bytes of a picture: PPM if the name ends in `.ppm`, else PNG."""
+    return ppm(image) if path.lower().endswith('.ppm') else png(image)
+
+
 def write_image(path: str, image: Image, inputs: Iterable[str] = ()) -> None:
-    """Writes a picture: as PPM if the name ends in `.ppm`, else as PNG. `inputs`: as `writing` has them."""
-    write_whole(path, ppm(image) if path.endswith('.ppm') else png(image), inputs)
+    """Writes a picture as `encoded` returns it. `inputs`: as `writing` has them."""
+    write_whole(path, encoded(path, image), inputs)
 
 
 def paeth(a: int, b: int, c: int) -> int:

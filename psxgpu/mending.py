@@ -1,10 +1,11 @@
 """Recordings whose emulator did not live to end them, or that were cut: what is whole of them, and how it ends."""
 import os
 import struct
-from typing import IO, Tuple
+from typing import IO, NamedTuple
 
 from psxgpu.command import ToolError
-from psxgpu.stream import BEGIN, DMA, END, GP0, GP1, HEADS, KINDS, RAM
+from psxgpu.records import VERSIONS
+from psxgpu.stream import BEGIN, DMA, END, GP0, GP1, RAM, is_allowed, what_is
 
 WORDS = {GP1: 1, DMA: 3, BEGIN: 3}      # words after the tag
 
@@ -24,21 +25,42 @@ def rest_of(tag: int, data: bytes) -> bytes:
     return struct.pack('<I', kind << 24 | count) + data[:4 * (count + (kind == RAM))]
 
 
-def whole_of(file: IO[bytes], name: str) -> Tuple[int, bytes]:
-    """Returns how many bytes of a capture are whole records, and the bytes that have to follow: none if it is whole.
-    Raises ToolError if it is not a capture, or has something that is not a record."""
+class Whole(NamedTuple):
+    """What is whole of a recording: its first `size` bytes, and the bytes that have to follow, none if it is whole. `damage`
+    is what is there instead of a record, if there is something: then what follows it is lost."""
+    size: int
+    rest: bytes
+    damage: str = ''
+
+
+def is_record(version: int, tag: int, file: IO[bytes]) -> bool:
+    """Returns whether a tag begins a record. `file`: what is after the tag."""
+    kind, count = tag >> 24, tag & 0xFFFFFF
+    if not is_allowed(version, kind, count):
+        return False
+    data = file.read(4) if kind == RAM else b''
+    if len(data) < 4:
+        return True
+    address, = struct.unpack('<I', data)
+    return bool(address % 4 == 0 and address + 4 * count <= 0x200000)
+
+
+def whole_of(file: IO[bytes], name: str) -> Whole:
+    """Returns what is whole of a capture. Raises ToolError if it is not a capture."""
     size, at = file.seek(0, os.SEEK_END), 8
     file.seek(0)
-    if file.read(8) not in HEADS.values():
-        raise ToolError('%s: not a capture' % name)
+    head = file.read(8)
+    if head not in VERSIONS:
+        raise ToolError('%s: %s' % (name, what_is(head)))
     while at + 4 <= size:
         file.seek(at)
         tag, = struct.unpack('<I', file.read(4))
-        if tag >> 24 == END:
-            return at + 4, b''
-        if tag >> 24 >= len(KINDS):
-            raise ToolError('%s: byte %d: %08x begins no record' % (name, at, tag))
+        if tag == END:
+            return Whole(at + 4, b'')
+        if not is_record(VERSIONS[head], tag, file):
+            return Whole(at, bytes(4), 'byte %d: %08x begins no record of version %d' % (at, tag, VERSIONS[head]))
         if at + length_of(tag) > size:
-            return at, rest_of(tag, file.read()) + bytes(4)
+            file.seek(at + 4)
+            return Whole(at, rest_of(tag, file.read()) + bytes(4))
         at += length_of(tag)
-    return at, bytes(4)
+    return Whole(at, bytes(4))

@@ -3,6 +3,7 @@ import struct
 from typing import List, Sequence, Tuple
 
 from psxgpu.command import Readable, ToolError
+from psxgpu.errors import counted
 from psxgpu.packets.grammar import name_and_length, words_of_cells
 
 STATE = 3 + 13      # height, events played, registers
@@ -63,7 +64,7 @@ def store_text(words: Words) -> List[str]:
     if not words.one():
         return []
     job = words.take(5)
-    return ['a store of %s: it waits for %d reads' % (job_text(job), words_left(job))]
+    return ['a store of %s: it waits for %s' % (job_text(job), counted(words_left(job), 'read'))]
 
 
 def transfer_text(words: Words) -> List[str]:
@@ -71,7 +72,7 @@ def transfer_text(words: Words) -> List[str]:
     kind = words.one()
     if kind == ONE_BLOCK:
         address, left, _, _ = words.take(4)
-        return ['a transfer of DMA: %d words are left at %06x' % (left, address)]
+        return ['a transfer of DMA: %s left at %06x' % (counted(left, 'word'), address)]
     if kind == LINKED_LIST:
         return ['a linked list of DMA: the next node is at %06x' % words.one()]
     return []

@@ -6,6 +6,7 @@
 
 A capture that breaks the format is `ToolError`, with the byte. docs/CAPTURE.md has the format.
 """
+import re
 from array import array
 from typing import Dict, Iterator, NoReturn, Optional, Tuple
 
@@ -27,6 +28,19 @@ BEGINNINGS = {b'\x1f\x8b': 'gzip', b'\x28\xb5\x2f\xfd': 'zstd', b'\xfd7zXZ': 'xz
               b'\x89PNG': 'PNG', b'P6': 'PPM', SNAPSHOT: 'a snapshot'}
 
 
+def what_is(head: bytes) -> str:
+    """Returns what a file that begins with these eight bytes is instead of a capture."""
+    if not head:
+        return 'empty'
+    later = re.fullmatch(rb'PSXGPU([CS])(\d)', head)
+    if later and head != SNAPSHOT:
+        number, known = int(later[2]), max(HEADS) if later[1] == b'C' else 1
+        return '%s of version %d: this tool knows version%s' % (
+            'a capture' if later[1] == b'C' else 'a snapshot', number, 's 1 to %d' % known if known > 1 else ' 1')
+    kinds = [kind for begin, kind in BEGINNINGS.items() if head.startswith(begin)]
+    return 'not a capture: %s' % (kinds[0] if kinds else 'it begins with %r' % head)
+
+
 class Stream:
     """A capture, from a file that gives bytes. `version` is known at once; iterated it gives (kind, count, words) for
     each record, End left out. `words` is an array; that of a Ram record begins with the address. Neighbouring Gp0
@@ -44,10 +58,7 @@ class Stream:
 
     def refuse(self, head: bytes) -> NoReturn:
         """Raises ToolError with what the file seems to be."""
-        kinds = [kind for begin, kind in BEGINNINGS.items() if head.startswith(begin)]
-        if not head:
-            raise ToolError('%s: empty' % self.name)
-        raise ToolError('%s: not a capture: %s' % (self.name, kinds[0] if kinds else 'it begins with %r' % head))
+        raise ToolError('%s: %s' % (self.name, what_is(head)))
 
     @property
     def place(self) -> int:

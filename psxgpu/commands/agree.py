@@ -13,7 +13,9 @@ Status: 0 all are equal, 1 some differ, 2 an error, also if a player wrote no du
 import argparse
 
 from psxgpu.command import DIFFERENT, SAME, ToolError, decimal
+from psxgpu.output import Command, Text
 from psxgpu.packets.generated import CLASSES
+from psxgpu.players import player
 from psxgpu.players.agreement import Score, compare_class
 from psxgpu.players.named import player_of
 from psxgpu.players.trial_run import try_commands
@@ -21,11 +23,12 @@ from psxgpu.players.trial_run import try_commands
 
 def arguments(parser: argparse.ArgumentParser) -> None:
     """Adds the arguments of this tool."""
-    parser.add_argument('ours', nargs='?', metavar='OURS', help='a player')
-    parser.add_argument('theirs', nargs='?', metavar='THEIRS', help='another player')
+    parser.add_argument('ours', nargs='?', type=Command, metavar='OURS', help='a player')
+    parser.add_argument('theirs', nargs='?', type=Command, metavar='THEIRS', help='another player')
     parser.add_argument('captures', nargs='?', type=decimal(1, 1000000), default=100, metavar='CAPTURES',
                         help='the captures of each class (default: 100)')
-    parser.add_argument('names', nargs='*', metavar='CLASS', help='the classes (default: all)')
+    parser.add_argument('names', nargs='*', type=Text, metavar='CLASS', help='the classes (default: all)')
+    player.seconds_argument(parser)
     parser.add_argument('--classes', action='store_true', help='list the classes')
 
 
@@ -39,7 +42,7 @@ def run(words: argparse.Namespace) -> int:
     unknown = [name for name in words.names if name not in CLASSES]
     if unknown:
         raise ToolError('there is no class %r: the classes are %s' % (unknown[0], '; '.join(CLASSES)))
-    players = [player_of(command, appends=True) for command in (words.ours, words.theirs)]
+    players = [player_of(command, words.seconds) for command in (words.ours, words.theirs)]
     try_commands(players[0], players[1])
     scores = []
     print('| class | captures | equal | cells that differ in the others |')

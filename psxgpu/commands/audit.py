@@ -17,34 +17,54 @@ then also know `vram`.
 Status: 0 no packet differs; 1 some do; 2 an error, also if there is no packet to compare.
 """
 import argparse
+import json
+from typing import Dict
 
 from psxgpu import progress
 from psxgpu.command import DIFFERENT, SAME, decimal, title
 from psxgpu.files import read_capture
-from psxgpu.players.audit import audit
+from psxgpu.output import Command, Source, tree
+from psxgpu.players import player
+from psxgpu.players.audit import Row, audit
 from psxgpu.players.named import player_of
+from psxgpu.players.trial_run import OURS, THEIRS, try_words
 from psxgpu.reduce.classes import reduce_classes
 
 
 def arguments(parser: argparse.ArgumentParser) -> None:
     """Adds the arguments of this tool."""
-    parser.add_argument('capture', metavar='CAPTURE', help='a flat capture; - is standard input')
-    parser.add_argument('ours', metavar='OURS', help='the reference player: psxgpu_tool')
-    parser.add_argument('theirs', metavar='THEIRS', help='the player to test')
+    parser.add_argument('capture', type=Source, metavar='CAPTURE', help='a flat capture; - is standard input')
+    parser.add_argument('ours', type=Command, metavar='OURS', help='the reference player: psxgpu_tool')
+    parser.add_argument('theirs', type=Command, metavar='THEIRS', help='the player to test')
     parser.add_argument('--first', type=decimal(1, 1 << 62), default=1, metavar='EVENT',
                         help='the first event to compare (default: 1)')
     parser.add_argument('--last', type=decimal(1, 1 << 62), default=1 << 60, metavar='EVENT',
                         help='the last event to compare (default: that of the capture)')
-    parser.add_argument('--reduce', metavar='DIR',
+    parser.add_argument('--json', action='store_true', help='print an object with an entry for each class')
+    player.seconds_argument(parser)
+    parser.add_argument('--reduce', '-o', type=tree('psxgpu audit'), metavar='DIR',
                         help='write the smallest capture for each class that differs, and index.html, a table of them')
 
 
 def run(words: argparse.Namespace) -> int:
     """Prints the table and the first packet of each class that differs."""
     name, data = title(words.capture), read_capture(words.capture)
-    ours, theirs = player_of(words.ours, appends=True), player_of(words.theirs, appends=True)
+    ours, theirs = player_of(words.ours, words.seconds), player_of(words.theirs, words.seconds)
+    for one, role in ((ours, OURS), (theirs, THEIRS)):
+        try_words(one, role)
     with progress.shown(name, is_quiet=True):
         rows = audit(data, ours, theirs, words.first, words.last, name)
+    if words.json:
+        print(json.dumps({kind: row.as_object() for kind, row in sorted(rows.items())}, indent=1))
+    else:
+        print_table(rows)
+    if words.reduce:
+        reduce_classes(data, name, rows, ours, theirs, words.reduce)
+    return DIFFERENT if any(row.differ for row in rows.values()) else SAME
+
+
+def print_table(rows: Dict[str, Row]) -> None:
+    """Prints the table, and the first packet of each class that differs."""
     print('| packets | number | equal | cells looked at | that differ | by more than one step |')
     print('|---|---|---|---|---|---|')
     for kind, row in sorted(rows.items()):
@@ -52,6 +72,3 @@ def run(words: argparse.Namespace) -> int:
     for kind, row in sorted(rows.items()):
         if row.first:
             print('%s: %s' % (kind, row.first))
-    if words.reduce:
-        reduce_classes(data, name, rows, ours, theirs, words.reduce)
-    return DIFFERENT if any(row.differ for row in rows.values()) else SAME

@@ -22,7 +22,9 @@ import contextlib
 from psxgpu import progress
 from psxgpu.command import DIFFERENT, SAME, decimal, title
 from psxgpu.difference import compared
+from psxgpu.errors import counted
 from psxgpu.files import plain
+from psxgpu.output import Command, Source
 from psxgpu.packets.known import CLASSES, NAMES
 from psxgpu.players import player
 from psxgpu.players.beginning import beginning
@@ -35,20 +37,21 @@ from psxgpu.players.two_players import Players
 
 def arguments(parser: argparse.ArgumentParser) -> None:
     """Adds the arguments of this tool."""
-    parser.add_argument('capture', metavar='CAPTURE', help='a capture or a dump of a GPU; - is standard input')
-    parser.add_argument('ours', metavar='OURS', help='a shell command: it reads a capture and writes a dump')
-    parser.add_argument('theirs', metavar='THEIRS', help='another such command')
+    parser.add_argument('capture', type=Source, metavar='CAPTURE', help='a capture or a dump of a GPU; - is standard input')
+    parser.add_argument('ours', type=Command, metavar='OURS', help='a shell command: it reads a capture and writes a dump')
+    parser.add_argument('theirs', type=Command, metavar='THEIRS', help='another such command')
     parser.add_argument('--tolerance', type=decimal(0, 31), default=0, metavar='N',
                         help='cells whose channels are at most N steps apart count as equal')
     parser.add_argument('--ignore', action='append', choices=sorted(CLASSES) + list(NAMES), default=[], metavar='CLASS',
                         help='a class of packets whose differences are known, some of: '
                              + ', '.join(sorted(CLASSES) + list(NAMES)))
+    player.seconds_argument(parser)
     player.argument(parser)
 
 
 def search(words: argparse.Namespace, path: str, name: str, program: str) -> int:
     """Prints the first packet after which the dumps differ. Returns the status."""
-    ours, theirs = player_of(words.ours), player_of(words.theirs)
+    ours, theirs = player_of(words.ours, words.seconds), player_of(words.theirs, words.seconds)
 
     def shows(beginning_path: str) -> bool:
         """Whether the dumps of the beginning of the capture differ."""
@@ -64,7 +67,7 @@ def search(words: argparse.Namespace, path: str, name: str, program: str) -> int
             players = Players(ours, theirs, words.tolerance, steps, program)
             k = bisect(steps.count, players.differ, players.narrow)
         if k is None:
-            print('no difference after %d packets' % steps.lines[steps.count])
+            print('no difference after %s' % counted(steps.lines[steps.count], 'packet'))
             return SAME
         if k == 0:
             print('they differ before the first packet')

@@ -24,33 +24,24 @@ from psxgpu import progress
 from psxgpu.command import DIFFERENT, SAME, ToolError, decimal, title
 from psxgpu.difference import Difference, Grid, beside
 from psxgpu.files import is_recording, plain
-from psxgpu.image import about, load_file, write_image
-from psxgpu.output import refuse_inputs
+from psxgpu.image import about, encoded, load_file
+from psxgpu.output import Content, Picture, Source, once, write_several
 from psxgpu.players import frames, player
 
 
 def arguments(parser: argparse.ArgumentParser) -> None:
     """Adds the arguments of this tool."""
-    parser.add_argument('ours', metavar='OURS',
+    parser.add_argument('ours', type=Source, metavar='OURS',
                         help='a dump of video memory, a picture, or a recording; - is standard input')
-    parser.add_argument('theirs', metavar='THEIRS', help='another of the same kind')
-    parser.add_argument('picture', nargs='?', metavar='PICTURE', help='the picture of the difference to write')
+    parser.add_argument('theirs', type=Source, metavar='THEIRS', help='another of the same kind')
+    once(parser, 'picture', Picture, 'the picture of the difference to write')
     parser.add_argument('--tolerance', type=decimal(0, 255), default=0, metavar='N',
                         help='cells whose channels are at most N steps apart count as equal')
-    parser.add_argument('--side', metavar='PICTURE',
+    parser.add_argument('--side', type=Picture, metavar='PICTURE',
                         help='the picture to write of ours, theirs and the difference, side by side')
     parser.add_argument('--marks', action='store_true',
                         help='of recordings: frames end at marks (GP1 3Fh) and not at new display starts')
     player.argument(parser)
-
-
-def check_outputs(words: argparse.Namespace) -> None:
-    """Raises ToolError if a picture would replace an input or the other picture."""
-    for path in (words.picture, words.side):
-        if path:
-            refuse_inputs(path, [words.ours, words.theirs])
-    if words.picture and words.side and os.path.realpath(words.picture) == os.path.realpath(words.side):
-        raise ToolError('%s: the name of both pictures: name another output' % words.side)
 
 
 def are_recordings(paths: Tuple[str, str]) -> bool:
@@ -58,7 +49,9 @@ def are_recordings(paths: Tuple[str, str]) -> bool:
     if one file is a recording and the other is not."""
     found = [is_recording(path) for path in paths]
     if any(found) and any(not it and os.path.isfile(path) for it, path in zip(found, paths)):
-        raise ToolError('%s and %s: one is a recording' % paths)
+        recording, other = paths if found[0] else paths[::-1]
+        raise ToolError('%s is a recording, %s is not: compare it with a dump of the recording: '
+                        'psxgpu_tool vram < %s > vram.bin' % (recording, other, recording))
     return any(found)
 
 
@@ -83,10 +76,9 @@ def show_difference(words: argparse.Namespace, grids: List[Grid]) -> int:
     with progress.shown('compare', is_quiet=True):
         difference = Difference(grids[0], grids[1], words.tolerance)
     print('\n'.join(difference.lines()))
-    if words.picture:
-        write_image(words.picture, difference.image())
-    if words.side:
-        write_image(words.side, beside([grid.image() for grid in grids] + [difference.image()]))
+    pictures = [(words.picture, [difference.image()]),
+                (words.side, [grid.image() for grid in grids] + [difference.image()])]
+    write_several(Content(path, encoded(path, beside(images))) for path, images in pictures if path)
     return DIFFERENT if difference.count else SAME
 
 
@@ -111,7 +103,6 @@ def compare_recordings(words: argparse.Namespace) -> int:
 
 def run(words: argparse.Namespace) -> int:
     """Prints the difference and draws it."""
-    check_outputs(words)
     paths = words.ours, words.theirs
     if not are_recordings(paths):
         return show_difference(words, grids_of_files(paths))

@@ -28,30 +28,34 @@ from concurrent.futures import ThreadPoolExecutor
 from typing import List
 
 from psxgpu import progress
-from psxgpu.command import DIFFERENT, SAME, TROUBLE, ToolError, decimal, write_whole
+from psxgpu.command import DIFFERENT, SAME, TROUBLE, ToolError, decimal
 from psxgpu.conformance import expected, folder, judging, reducing, report
 from psxgpu.conformance.chapters import CHAPTERS
 from psxgpu.conformance.judging import Judge, Verdict
 from psxgpu.conformance.page import page
 from psxgpu.conformance.released import SUITE, WITHDRAWN
 from psxgpu.conformance.suite import Test
-from psxgpu.output import refuse_inputs
+from psxgpu.output import Command, Content, Source, Target, Text, tree, write_several
 from psxgpu.players import player
-from psxgpu.players.named import Player, expect_dump, player_of
-from psxgpu.stream import HEADS
+from psxgpu.players.named import Player, player_of
+from psxgpu.players.trial_run import try_player
 
 
 def arguments(parser: argparse.ArgumentParser) -> None:
     """Adds the arguments."""
-    parser.add_argument('tested', nargs='?', metavar='PLAYER', help='a shell command: capture in, dump out')
-    parser.add_argument('--only', action='append', default=[], metavar='NAME', help='a chapter, or CHAPTER/TEST')
-    parser.add_argument('--page', metavar='FILE', help='write a page with pictures: theirs, ours, the difference')
-    parser.add_argument('--junit', metavar='FILE', help='write JUnit XML')
-    parser.add_argument('--json', metavar='FILE', help='write the verdicts')
-    parser.add_argument('--expect', metavar='FILE', help='known failures: only another one fails the run')
-    parser.add_argument('--keep-expected', metavar='FILE', help='write the tests that do not pass now, for --expect')
-    parser.add_argument('--reduce', metavar='FOLDER', help='write the smallest capture that still shows each failure')
-    parser.add_argument('--write', metavar='FOLDER', help='write the tests as files, and what they expect')
+    parser.add_argument('tested', nargs='?', type=Command, metavar='PLAYER', help='a shell command: capture in, dump out')
+    parser.add_argument('--only', action='append', type=Text, default=[], metavar='NAME', help='a chapter, or CHAPTER/TEST')
+    parser.add_argument('--page', type=Target, metavar='FILE',
+                        help='write a page with pictures: theirs, ours, the difference')
+    parser.add_argument('--junit', type=Target, metavar='FILE', help='write JUnit XML')
+    parser.add_argument('--json', type=Target, metavar='FILE', help='write the verdicts')
+    parser.add_argument('--expect', type=Source, metavar='FILE', help='known failures: only another one fails the run')
+    parser.add_argument('--keep-expected', type=Target, metavar='FILE',
+                        help='write the tests that do not pass now, for --expect')
+    parser.add_argument('--reduce', type=tree('psxgpu conform --reduce'), metavar='FOLDER',
+                        help='write the smallest capture that still shows each failure')
+    parser.add_argument('--write', '-o', type=tree(folder.MAKER), metavar='FOLDER',
+                        help='write the tests as files, and what they expect')
     parser.add_argument('--exe', action='store_true', help='with --write: also programs for the console')
     parser.add_argument('--jobs', type=decimal(1, 1024), default=1, metavar='N',
                         help='runs of the player at a time (default: %(default)s)')
@@ -67,6 +71,14 @@ def arguments(parser: argparse.ArgumentParser) -> None:
 def every_test() -> List[Test]:
     """Returns the tests of all chapters."""
     return [test for chapter in CHAPTERS for test in chapter.tests]
+
+
+def names_of_tests() -> List[str]:
+    """Returns what --only takes: the chapters and the tests."""
+    return [chapter.name for chapter in CHAPTERS] + [test.full_name for test in every_test()]
+
+
+VALUES = {'--only': names_of_tests}
 
 
 def chosen(names: List[str]) -> List[Test]:
@@ -87,7 +99,7 @@ def version() -> str:
 
 def run_tests(tests: List[Test], tested: Player, jobs: int, seconds: int) -> List[Verdict]:
     """Returns the verdicts."""
-    expect_dump(tested, HEADS[1] + bytes(4))
+    try_player(tested, seconds=seconds)
     judge = Judge(tested, seconds)
     with progress.shown(tested.text, is_quiet=True) as line, ThreadPoolExecutor(jobs) as pool:
         verdicts = []
@@ -117,26 +129,17 @@ def show(verdicts: List[Verdict], words: argparse.Namespace, known: expected.Kno
     return status_of(verdicts, comparison.news, words)
 
 
-def check_outputs(words: argparse.Namespace) -> None:
-    """Raises ToolError if an output is the file of known failures, before anything is run."""
-    for path in (words.page, words.junit, words.json, words.keep_expected):
-        if path and words.expect:
-            refuse_inputs(path, [words.expect])
-
-
 def write_files(verdicts: List[Verdict], words: argparse.Namespace, seconds: float) -> None:
     """Writes the files that are asked for."""
     title = os.path.basename(words.tested)
-    for path, text in ((words.page, page(verdicts, title)), (words.junit, report.junit(verdicts, seconds)),
-                       (words.json, report.as_json(verdicts)), (words.keep_expected, expected.kept(verdicts))):
-        if path:
-            write_whole(path, text.encode(), [words.expect] if words.expect else [], is_text=True)
+    write_several(Content(path, text.encode(errors='replace'), is_text=True) for path, text in (
+        (words.page, page(verdicts, title)), (words.junit, report.junit(verdicts, seconds)),
+        (words.json, report.as_json(verdicts)), (words.keep_expected, expected.kept(verdicts))) if path)
 
 
 def test_player(words: argparse.Namespace, tests: List[Test]) -> int:
     """Runs the tests, and prints and writes what is found. Returns the status."""
-    check_outputs(words)
-    tested = player_of(words.tested, appends=True)
+    tested = player_of(words.tested)
     known = expected.read_known(words.expect) if words.expect else {}
     start = time.monotonic()
     verdicts = run_tests(tests, tested, words.jobs, words.seconds)

@@ -15,6 +15,7 @@ from typing import Iterator, List, Sequence
 from psxgpu import progress
 from psxgpu.command import DIFFERENT, SAME, ToolError, reading, title
 from psxgpu.files import plain
+from psxgpu.output import Source
 from psxgpu.packets.listing import NAMES, Entry, Listing
 from psxgpu.packets.unified import Side, Text, unified
 from psxgpu.players import player
@@ -23,8 +24,8 @@ from psxgpu.stream import Stream
 
 def arguments(parser: argparse.ArgumentParser) -> None:
     """Adds the arguments of this tool."""
-    parser.add_argument('ours', metavar='A', help='a capture or a dump of a GPU; - is standard input')
-    parser.add_argument('theirs', metavar='B', help='another one')
+    parser.add_argument('ours', type=Source, metavar='A', help='a capture or a dump of a GPU; - is standard input')
+    parser.add_argument('theirs', type=Source, metavar='B', help='another one')
     parser.add_argument('--name', action='append', choices=NAMES, metavar='NAME',
                         help='only these packets and events, some of: ' + ', '.join(NAMES))
     player.argument(parser)

@@ -13,27 +13,28 @@ from psxgpu import progress
 from psxgpu.command import ToolError, decimal, title
 from psxgpu.files import plain
 from psxgpu.film import encode, find_ffmpeg, frames_of
-from psxgpu.output import refuse_inputs, written_by_name
+from psxgpu.output import Command, Source, Target, once, written_by_name
 from psxgpu.players import player
 
 
 def arguments(parser: argparse.ArgumentParser) -> None:
     """Adds the arguments of this tool."""
-    parser.add_argument('capture', metavar='CAPTURE', help='a capture or a dump of a GPU; - is standard input')
-    parser.add_argument('film', metavar='FILM', help='the film to write; the end of its name decides the format')
+    parser.add_argument('capture', type=Source, metavar='CAPTURE', help='a capture or a dump of a GPU; - is standard input')
+    once(parser, 'film', Target, 'the film to write; the end of its name decides the format')
     parser.add_argument('--rate', type=decimal(1, 1000), default=60, metavar='N',
                         help='frames a second (default: %(default)s)')
     parser.add_argument('--scale', type=decimal(1, 16), default=2, metavar='N',
                         help='the size of a pixel (default: %(default)s)')
     parser.add_argument('--flips', action='store_true', help='a frame ends at each flip, even if there are marks')
-    parser.add_argument('--ffmpeg', metavar='PROGRAM', help='ffmpeg (default: that of the path)')
+    parser.add_argument('--ffmpeg', type=Command, metavar='PROGRAM', help='ffmpeg (default: that of the path)')
     player.argument(parser)
 
 
 def run(words: argparse.Namespace) -> None:
     """Writes the film."""
+    if words.film is None:
+        raise ToolError('name the film: psxgpu film %s film.mp4' % words.capture)
     program, ffmpeg, name = player.find(words.player), find_ffmpeg(words.ffmpeg), title(words.capture)
-    refuse_inputs(words.film, [words.capture])
     with plain(words.capture) as path, written_by_name(words.film, [words.capture]) as target:
         try:
             ends, (width, height) = frames_of(program, path, words.flips)

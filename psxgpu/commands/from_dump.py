@@ -22,17 +22,17 @@ from typing import Callable, Iterator, Optional
 
 from psxgpu.dumps.reader import Dump
 from psxgpu.dumps.translation import END, Translation
-from psxgpu.output import writing
-from psxgpu.packing import Damaged, unpacked
-from psxgpu.errors import ToolError, title
+from psxgpu.output import Packed, Source, Target, once, writing
+from psxgpu.packing import Damaged, packing, unpacked
+from psxgpu.errors import title
 
 
 def arguments(parser: argparse.ArgumentParser) -> None:
     """Adds the arguments of this tool."""
-    parser.add_argument('dump', nargs='?', default='-', help='the dump; standard input if left out')
-    parser.add_argument('-o', '--output', default='-', metavar='CAPTURE', help='standard output if left out')
+    parser.add_argument('dump', nargs='?', type=Source, default='-', help='the dump; standard input if left out')
+    once(parser, 'output', Packed, 'the capture to write; standard output if left out', '-')
     parser.add_argument('--about', action='store_true', help='print the descriptions in the dump on standard error')
-    parser.add_argument('--reads', metavar='FILE', help='write the words that were read, a line each')
+    parser.add_argument('--reads', type=Target, metavar='FILE', help='write the words that were read, a line each')
 
 
 @contextlib.contextmanager
@@ -48,11 +48,9 @@ def lines_into(path: Optional[str], source: str) -> Iterator[Optional[Callable[[
 def run(words: argparse.Namespace) -> None:
     """Writes the capture. The one of a damaged dump is finished first."""
     name, damaged = title(words.dump), None
-    if words.reads == words.output:
-        raise ToolError('%s: named for the capture and for the reads' % words.reads)
     with unpacked(words.dump) as source:
         dump = Dump(source, name)
-        with writing(words.output, [words.dump]) as target, lines_into(words.reads, words.dump) as reads:
+        with packing(words.output, [words.dump]) as target, lines_into(words.reads, words.dump) as reads:
             translation = Translation(dump, reads)
             try:
                 for piece in translation:

@@ -27,23 +27,23 @@ error.
 import argparse
 import tempfile
 
-from psxgpu.command import ToolError, pour, reading, title, writing
+from psxgpu.command import ToolError, pour, reading, title
 from psxgpu.log import Bad, from_log, lines_of
-from psxgpu.output import refuse_inputs
+from psxgpu.output import Packed, Source, once
+from psxgpu.packing import packing
 from psxgpu.stream import HEADS
 
 
 def arguments(parser: argparse.ArgumentParser) -> None:
     """Adds the arguments of this tool."""
-    parser.add_argument('log', nargs='?', default='-', metavar='LOG', help='the log; standard input if left out')
-    parser.add_argument('capture', nargs='?', default='-', metavar='CAPTURE',
-                        help='the capture to write; standard output if left out')
+    parser.add_argument('log', nargs='?', type=Source, default='-', metavar='LOG',
+                        help='the log; standard input if left out')
+    once(parser, 'capture', Packed, 'the capture to write; standard output if left out', '-')
 
 
 def run(words: argparse.Namespace) -> None:
     """Writes the capture. Its records wait in a file until all lines are read: then the version is known."""
     name = title(words.log)
-    refuse_inputs(words.capture, [words.log])
     with tempfile.TemporaryFile() as records:
         with reading(words.log) as source:
             try:
@@ -51,7 +51,7 @@ def run(words: argparse.Namespace) -> None:
             except Bad as bad:
                 raise ToolError('%s: %s' % (name, bad)) from bad
         records.seek(0)
-        with writing(words.capture, log.inputs) as target:
+        with packing(words.capture, log.inputs) as target:
             target.write(HEADS[log.needs])
             pour(records, target)
             target.write(bytes(4))

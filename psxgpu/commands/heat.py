@@ -17,13 +17,16 @@ Status: 0 written, 2 an error.
 from __future__ import annotations
 
 import argparse
+import contextlib
 from typing import Optional, Tuple
 
 from psxgpu.command import ToolError, decimal, title
+from psxgpu.errors import counted
 from psxgpu.heat.counting import Counter, Frame
 from psxgpu.heat.picture import Counts, counts_of, picture
 from psxgpu.image import write_image
 from psxgpu.files import plain
+from psxgpu.output import Picture, Source, once
 from psxgpu.players import player
 from psxgpu.players.flat import flattened
 from psxgpu.players.listed import Walk
@@ -33,8 +36,8 @@ MARK, FLIP = 0x3F, 0x05     # opcodes of control words
 
 def arguments(parser: argparse.ArgumentParser) -> None:
     """Adds the arguments."""
-    parser.add_argument('capture', help='a capture; - is standard input')
-    parser.add_argument('picture', nargs='?', help='the PNG or PPM to write')
+    parser.add_argument('capture', type=Source, metavar='CAPTURE', help='a capture; - is standard input')
+    once(parser, 'picture', Picture, 'the PNG or PPM to write')
     parser.add_argument('--frame', type=decimal(1, 1 << 30), metavar='N', help='the number of a frame, from 1')
     parser.add_argument('--flips', action='store_true', help='frames end at each write of the display start')
     player.argument(parser)
@@ -72,11 +75,13 @@ def run(words: argparse.Namespace) -> None:
     program, name = player.find(words.player), title(words.capture)
     with plain(words.capture) as path, flattened(path, program) as flat:
         counter = Counter(Walk(flat, name, program), FLIP if words.flips else MARK)
-        counter.go()
-        number, counts = frames(counter, words.frame)
-    if words.frame and words.frame != number:
-        raise ToolError('%s: it has %d frames' % (name, len(counter.frames)))
-    if words.frame and counts is None:
+        with contextlib.closing(counter.questions):
+            counter.go()
+            last = len(counter.frames) - (not counter.frames[-1].packets)
+            if words.frame and words.frame > last:
+                raise ToolError('%s: there is no frame %d: it has %s' % (name, words.frame, counted(last, 'frame')))
+            number, counts = frames(counter, words.frame)
+    if words.frame and (counts is None or number != words.frame):
         raise ToolError('%s: frame %d covers no cell' % (name, words.frame))
     if counts is None:
         return

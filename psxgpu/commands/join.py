@@ -8,10 +8,13 @@ The result has the greatest version among them. Captures of 512 and of 1024 rows
 Status: 0 written, 2 an error, also if the result has more than 2^30 bytes, which a player refuses.
 """
 import argparse
+import os
 from typing import Dict, Iterable
 
-from psxgpu.command import ToolError, title, writing
-from psxgpu.files import opened
+from psxgpu.command import ToolError, title
+from psxgpu.files import is_plain, opened
+from psxgpu.output import Grown, Source
+from psxgpu.packing import packing
 from psxgpu.stream import HEADS, Stream, encode
 
 MOST_BYTES = 1 << 30
@@ -19,8 +22,8 @@ MOST_BYTES = 1 << 30
 
 def arguments(parser: argparse.ArgumentParser) -> None:
     """Adds the arguments of this tool."""
-    parser.add_argument('captures', nargs='+', metavar='CAPTURE', help='the captures in the order of the session')
-    parser.add_argument('-o', '--output', default='-', metavar='OUTPUT',
+    parser.add_argument('captures', nargs='+', type=Source, metavar='CAPTURE', help='the captures in the order of the session')
+    parser.add_argument('-o', '--output', type=Grown, default='-', metavar='OUTPUT',
                         help='the capture to write, which may be one of them; standard output if left out')
 
 
@@ -39,8 +42,11 @@ def run(words: argparse.Namespace) -> None:
     """Writes the whole."""
     if '-' in words.captures:
         raise ToolError('standard input: name files, since each is read twice')
+    for path in words.captures:
+        if os.path.exists(words.output) and os.path.samefile(path, words.output) and not is_plain(path):
+            raise ToolError('%s is packed or a dump: name another output' % path)
     version, size = version_of(words.captures), 12
-    with writing(words.output, words.captures if words.output == '-' else ()) as target:
+    with packing(words.output) as target:
         target.write(HEADS[version])
         for path in words.captures:
             with opened(path) as file:

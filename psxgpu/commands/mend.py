@@ -5,9 +5,10 @@
     psxgpu mend killed.capture.gz whole.capture.gz
 
 All events that are there are kept, also those of a record that is cut, and End follows. Without OUTPUT, the recording
-itself becomes the whole one. A recording that is packed (.gz, .xz, .zst) needs an OUTPUT, which is packed if its name
-ends so; of packed bytes that are cut or damaged, what can be unpacked is kept. Status: 0 it is whole now; 2 an error,
-and the recording stays as it is.
+itself becomes the whole one. If something in the middle is not a record, the events before it are kept; this needs an
+OUTPUT, since the recording has more. So does a recording that is packed (.gz, .xz, .zst); OUTPUT is packed if its name
+ends so. Of packed bytes that are cut or damaged, what can be unpacked is kept. Status: 0 it is whole now; 2 an error, and
+the recording stays as it is.
 """
 import argparse
 import contextlib
@@ -15,16 +16,16 @@ import tempfile
 from typing import IO, Iterator, Tuple
 
 from psxgpu import progress
-from psxgpu.command import ToolError, pour, writing
+from psxgpu.command import ToolError, pour
 from psxgpu.mending import whole_of
+from psxgpu.output import Packed, Source, once, writing
 from psxgpu.packing import MOST_FIRST, PACKED, Damaged, packing, unpacked
 
 
 def arguments(parser: argparse.ArgumentParser) -> None:
     """Adds the arguments of this tool."""
-    parser.add_argument('capture', metavar='CAPTURE', help='the recording')
-    parser.add_argument('output', nargs='?', metavar='OUTPUT',
-                        help='the capture to write (default: the recording itself)')
+    parser.add_argument('capture', type=Source, metavar='CAPTURE', help='the recording')
+    once(parser, 'output', Packed, 'the capture to write (default: the recording itself)')
 
 
 class Beginning:
@@ -70,11 +71,19 @@ def run(words: argparse.Namespace) -> None:
     if words.output is None and is_packed(words.capture):
         raise ToolError('%s is packed: name an output, as in psxgpu mend %s whole.capture' % ((words.capture,) * 2))
     with recording(words.capture) as (file, damage):
-        size, rest = whole_of(file, words.capture)
-        if words.output or rest:
+        whole = whole_of(file, words.capture)
+        if whole.damage and not words.output:
+            raise ToolError('%s: %s: name an output for what is before it, as in psxgpu mend %s whole.capture'
+                            % (words.capture, whole.damage, words.capture))
+        if words.output or whole.rest:
             file.seek(0)
             write = packing(output, [words.capture]) if words.output else writing(output)
             with progress.following(file, words.capture), write as target:
-                pour(Beginning(file, size), target)
-                target.write(rest)
-    print(('made whole' if rest else 'it was whole') + (': all that can be unpacked of %s' % damage if damage else ''))
+                pour(Beginning(file, whole.size), target)
+                target.write(whole.rest)
+    lines = ['made whole' if whole.rest else 'it was whole']
+    if whole.damage:
+        lines.append('all before %s' % whole.damage)
+    if damage:
+        lines.append('all that can be unpacked of %s' % damage)
+    print(': '.join(lines))

@@ -11,6 +11,7 @@ packets before the fault end the list.
 Status: 0 all was listed, 2 an error, a refusal, or nothing to list.
 """
 import argparse
+import json
 import re
 import sys
 from typing import List
@@ -18,6 +19,7 @@ from typing import List
 from psxgpu import progress
 from psxgpu.command import SAME, TROUBLE, ToolError, decimal, reading, title
 from psxgpu.files import plain
+from psxgpu.output import Source
 from psxgpu.packets.control import class_name
 from psxgpu.packets.listing import NAMES, Entry, Listing, holds
 from psxgpu.players import player
@@ -28,7 +30,7 @@ TOGETHER = 256      # entries that are written at once
 
 def arguments(parser: argparse.ArgumentParser) -> None:
     """Adds the arguments of this tool."""
-    parser.add_argument('capture', metavar='CAPTURE', help='a capture or a dump of a GPU; - is standard input')
+    parser.add_argument('capture', type=Source, metavar='CAPTURE', help='a capture or a dump of a GPU; - is standard input')
     parser.add_argument('--name', action='append', choices=NAMES, metavar='NAME',
                         help='only these packets and events, some of: ' + ', '.join(NAMES))
     parser.add_argument('--cell', type=decimal(0, 1023), nargs=2, metavar=('X', 'Y'),
@@ -36,6 +38,7 @@ def arguments(parser: argparse.ArgumentParser) -> None:
     parser.add_argument('--events', type=decimal(1, 1 << 62), nargs=2, metavar=('FIRST', 'LAST'),
                         help='only these events')
     parser.add_argument('--line', action='store_true', help='all of a packet on one line')
+    parser.add_argument('--json', action='store_true', help='a JSON object for each packet, on one line')
     player.argument(parser)
 
 
@@ -46,10 +49,13 @@ def is_asked_for(words: argparse.Namespace, entry: Entry) -> bool:
     return not words.events or bool(words.events[0] <= entry.event <= words.events[1])
 
 
-def entry_text(entry: Entry, on_one_line: bool) -> str:
+def entry_text(entry: Entry, words: argparse.Namespace) -> str:
     """Returns an entry with its fields."""
     fields = entry.fields()
-    if on_one_line:
+    if words.json:
+        area = [int(number) for number in entry.area.split() if number != '-']
+        return json.dumps(dict(event=entry.event, name=entry.name, line=entry.line, area=area, fields=fields)) + '\n'
+    if words.line:
         return ' | '.join([entry.line] + (['; '.join(fields)] if fields else [])) + '\n'
     return '\n    '.join((entry.line, *fields)) + '\n'
 
@@ -72,7 +78,7 @@ def write_entries(listing: Listing, words: argparse.Namespace, is_whole: bool) -
     try:
         for entry in listing:
             if is_whole or is_asked_for(words, entry):
-                texts.append(entry_text(entry, words.line))
+                texts.append(entry_text(entry, words))
                 count += 1
                 if len(texts) == together:
                     sys.stdout.write(''.join(texts))

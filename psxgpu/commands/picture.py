@@ -17,16 +17,16 @@ from typing import Optional, Sequence
 from psxgpu.command import ToolError, decimal, title
 from psxgpu.files import RECORDINGS, is_recording, plain
 from psxgpu.image import Image, about, load_file, read_picture, write_image
-from psxgpu.output import refuse_inputs
+from psxgpu.output import Picture, Source, once
 from psxgpu.players import moment, player
 from psxgpu.vram import WIDTH, cells_of, palette_of, shown, texels
 
 
 def arguments(parser: argparse.ArgumentParser) -> None:
     """Adds the arguments of this tool."""
-    parser.add_argument('source', metavar='SOURCE', help='a dump, a picture or a capture; - is standard input')
-    parser.add_argument('target', metavar='PICTURE', nargs='?', help='the picture to write; - is standard output')
-    parser.add_argument('-o', '--output', metavar='PICTURE', help='the same')
+    parser.add_argument('source', type=Source, metavar='SOURCE',
+                        help='a dump, a picture or a capture; - is standard input')
+    once(parser, 'picture', Picture, 'the picture to write; - is standard output')
     parser.add_argument('--at', type=decimal(0, 1 << 62), metavar='N', help='of a capture: after event N')
     parser.add_argument('--vram', action='store_true', help='of a capture: all of video memory')
     parser.add_argument('--bits', type=int, choices=(4, 8, 15), default=15, help='bits of a texel of the dump')
@@ -78,9 +78,7 @@ def of_file(words: argparse.Namespace) -> Image:
 
 def run(words: argparse.Namespace) -> None:
     """Writes the picture."""
-    target = words.target or words.output
-    if not target or words.target and words.output:
-        raise ToolError('name one picture to write: `psxgpu picture --help` explains the arguments')
-    refuse_inputs(target, [words.source])
+    if words.picture is None:
+        raise ToolError('name the picture: psxgpu picture %s picture.png' % words.source)
     is_capture = words.at is not None or is_recording(words.source)
-    write_image(target, of_recording(words, words.at) if is_capture else of_file(words), [words.source])
+    write_image(words.picture, of_recording(words, words.at) if is_capture else of_file(words), [words.source])

@@ -26,25 +26,29 @@ import sys
 import time
 
 from psxgpu import progress
-from psxgpu.command import DIFFERENT, SAME, decimal, title
+from psxgpu.command import DIFFERENT, SAME, decimal, parser_of, title
 from psxgpu.commands import to_exe
 from psxgpu.files import plain
+from psxgpu.output import Command, Source, stem, write_several
 from psxgpu.packets.known import CLASSES, NAMES
 from psxgpu.players import player
 from psxgpu.players.flat import flattened
 from psxgpu.players.named import player_of
-from psxgpu.players.trial_run import try_players
+from psxgpu.players.trial_run import OURS, THEIRS, try_players, try_words, version_for
 from psxgpu.reduce.faults import BreaksDown, DumpsDiffer, Fault, WordsDiffer
 from psxgpu.reduce.job import Job, Wanted
-from psxgpu.reduce.report import report_lines, write_all
+from psxgpu.reduce.report import files_of, report_lines
+
+ENDINGS = ('.capture', '.log', '.py', '.png', '.exe')
+PROOF = '.log', r'# .*, event \d+ of the flat capture: '     # the first line of NAME.log
 
 
 def arguments(parser: argparse.ArgumentParser) -> None:
     """Adds the arguments."""
-    parser.add_argument('capture', help='a capture; - is standard input')
-    parser.add_argument('ours', help='a shell command: capture in, dump out')
-    parser.add_argument('theirs', help='another such command')
-    parser.add_argument('-o', '--output', default='reduced', metavar='NAME',
+    parser.add_argument('capture', type=Source, metavar='CAPTURE', help='a capture; - is standard input')
+    parser.add_argument('ours', type=Command, metavar='OURS', help='a shell command: capture in, dump out')
+    parser.add_argument('theirs', type=Command, metavar='THEIRS', help='another such command')
+    parser.add_argument('-o', '--output', type=stem(ENDINGS, PROOF), default='reduced', metavar='NAME',
                         help='the beginning of the files\' names (default: %(default)s)')
     parser.add_argument('--event', type=decimal(1, 1 << 62), metavar='N', help='an event of the flat capture')
     parser.add_argument('--keep', action='store_true', help='the packet stays in its class')
@@ -55,8 +59,7 @@ def arguments(parser: argparse.ArgumentParser) -> None:
                         help='cells whose channels are at most N steps apart count as equal')
     parser.add_argument('--ignore', action='append', choices=sorted(CLASSES) + list(NAMES), default=[], metavar='CLASS',
                         help='a class of packets whose differences are known')
-    parser.add_argument('--seconds', type=decimal(1, 3600), default=60, metavar='N',
-                        help='for one run of a player (default: %(default)s)')
+    player.seconds_argument(parser)
     parser.add_argument('--jobs', type=decimal(1, 1000), default=len(os.sched_getaffinity(0)), metavar='N',
                         help='players at a time (default: one for each processor)')
     parser.add_argument('--exe', action='store_true', help='also write NAME.exe, a program for the console')
@@ -72,16 +75,18 @@ def fault_of(words: argparse.Namespace) -> Fault:
 
 def write_program(capture: str, name: str) -> None:
     """Writes NAME.exe by `to-exe`."""
-    parser = argparse.ArgumentParser()
-    to_exe.arguments(parser)
-    to_exe.run(parser.parse_intermixed_args([capture, '-o', name, '--check']))
+    parser = parser_of(to_exe, 'psxgpu to-exe')
+    to_exe.run(parser.parsed(['-o', name, '--check', '--', capture]))
 
 
 def search(words: argparse.Namespace, path: str, name: str) -> int:
     """Searches and writes; returns the status."""
-    ours, theirs = player_of(words.ours), player_of(words.theirs)
-    if not words.words:
-        try_players(ours, theirs, path, words.seconds)
+    ours, theirs = player_of(words.ours, words.seconds), player_of(words.theirs, words.seconds)
+    if words.words:
+        for one, role in ((ours, OURS), (theirs, THEIRS)):
+            try_words(one, role, version_for(path))
+    else:
+        try_players(ours, theirs, path)
     wanted = Wanted(fault_of(words), words.ignore, words.keep, words.event, words.player)
     begin = time.monotonic()
     with Job(ours, theirs, wanted, words.seconds, words.jobs) as job:
@@ -92,7 +97,7 @@ def search(words: argparse.Namespace, path: str, name: str) -> int:
             print('no difference')
             return SAME
         print('\n'.join(report_lines(found)))
-        write_all(found, words.output, ['ours: ' + words.ours, 'theirs: ' + words.theirs])
+        write_several(files_of(found, words.output, ['ours: ' + words.ours, 'theirs: ' + words.theirs]))
         if words.exe:
             write_program(words.output + '.capture', words.output + '.exe')
         if sys.stderr.isatty():

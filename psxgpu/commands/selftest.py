@@ -52,7 +52,7 @@ def build_of(words: argparse.Namespace) -> Tuple[Player, str]:
     try:
         program = None if words.library else player.find(words.player)
     except ToolError:
-        if words.player:
+        if player.is_named(words.player):
             raise
         program = None
     if program is None:
@@ -61,7 +61,7 @@ def build_of(words: argparse.Namespace) -> Tuple[Player, str]:
         except Missing as missing:
             also = '' if words.library else 'no psxgpu_tool, and '
             raise ToolError('%s%s: name a program with --player' % (also, missing)) from None
-    return CommandPlayer(program, appends=True), version_of(program)
+    return CommandPlayer(program), version_of(program)
 
 
 def outputs() -> Iterator[Tuple[str, str, bytes]]:

@@ -16,10 +16,13 @@ Status: 0 written, 2 an error.
 from __future__ import annotations
 
 import argparse
+import contextlib
 import os
 
-from psxgpu.command import title, write_whole
+from psxgpu.command import title
+from psxgpu.errors import counted
 from psxgpu.files import plain
+from psxgpu.output import Source, folder, tree
 from psxgpu.players import player
 from psxgpu.players.flat import flattened
 from psxgpu.players.listed import Walk
@@ -30,8 +33,8 @@ from psxgpu.textures.pixels import distinct, png_rgba, without_parts
 
 def arguments(parser: argparse.ArgumentParser) -> None:
     """Adds the arguments."""
-    parser.add_argument('capture', help='a capture; - is standard input')
-    parser.add_argument('-o', '--output', default='textures', metavar='DIR',
+    parser.add_argument('capture', type=Source, metavar='CAPTURE', help='a capture; - is standard input')
+    parser.add_argument('-o', '--output', type=tree('psxgpu textures'), default='textures', metavar='DIR',
                         help='the folder to write (default: %(default)s)')
     parser.add_argument('--parts', action='store_true', help='also write textures that are part of another one')
     parser.add_argument('--half', action='store_true', help='texels with bit 15 are half transparent')
@@ -43,16 +46,18 @@ def run(words: argparse.Namespace) -> None:
     program, name = player.find(words.player), title(words.capture)
     with plain(words.capture) as path, flattened(path, program) as flat:
         collector = Collector(Walk(flat, name, program))
-        collector.go()
-        textures = distinct(collector.used(), words.half)
+        with contextlib.closing(collector.questions):
+            collector.go()
+            textures = distinct(collector.used(), words.half)
     count = len(textures)
     if not words.parts:
         textures = without_parts(textures)
-    os.makedirs(words.output, exist_ok=True)
-    for it in textures:
-        write_whole(os.path.join(words.output, it.name), png_rgba(it.width, it.height, it.pixels))
-    write_whole(os.path.join(words.output, 'index.html'), page(os.path.basename(name), textures).encode(), is_text=True)
-    if textures:
-        write_whole(os.path.join(words.output, 'sheet.png'), sheet(textures))
-    print('%d textures, %d of them parts of others; %d questions for %d packets'
-          % (count, count - len(textures), len(collector.asked), collector.packets))
+    with folder(words.output) as out:
+        for it in textures:
+            out.put(it.name, png_rgba(it.width, it.height, it.pixels))
+        out.put('index.html', page(os.path.basename(name), textures).encode(errors='replace'))
+        if textures:
+            out.put('sheet.png', sheet(textures))
+    print('%s, %d of them parts of others; %s for %s'
+          % (counted(count, 'texture'), count - len(textures), counted(len(collector.asked), 'question'),
+             counted(collector.packets, 'packet')))

@@ -18,19 +18,20 @@ import sys
 from psxgpu.command import decimal, reading
 from psxgpu.dumps.export import About, Export
 from psxgpu.files import plain
+from psxgpu.output import Packed, Source, Text, once
 from psxgpu.packing import packing
 from psxgpu.players import player
 from psxgpu.players.flat import flattened
 from psxgpu.stream import Stream
-from psxgpu.errors import title
+from psxgpu.errors import counted, title
 
 
 def arguments(parser: argparse.ArgumentParser) -> None:
     """Adds the arguments of this tool."""
-    parser.add_argument('capture', help='a capture; - is standard input')
-    parser.add_argument('dump', nargs='?', default='-',
-                        help='the dump, packed if its name ends in .zst, .xz or .gz; standard output if left out')
-    parser.add_argument('--game', default='UNKNOWN', metavar='ID', help='the name of the game in the dump')
+    parser.add_argument('capture', type=Source, metavar='CAPTURE', help='a capture; - is standard input')
+    once(parser, 'dump', Packed,
+         'the dump, packed if its name ends in .zst, .xz or .gz; standard output if left out', '-')
+    parser.add_argument('--game', type=Text, default='UNKNOWN', metavar='ID', help='the name of the game in the dump')
     parser.add_argument('--pal', action='store_true', help='50 frames a second instead of 60')
     parser.add_argument('--flips', action='store_true',
                         help='a VSync after each write of the display start: for recordings without marks')
@@ -51,5 +52,6 @@ def run(words: argparse.Namespace) -> None:
             for piece in export:
                 target.write(piece)
     if export.left_out:
-        print('%s: %d events are left out: reads of the status and control words' % (name, export.left_out),
+        print('%s: %s %s left out: reads of the status and control words'
+              % (name, counted(export.left_out, 'event'), 'is' if export.left_out == 1 else 'are'),
               file=sys.stderr)

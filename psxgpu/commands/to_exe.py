@@ -9,19 +9,21 @@ for each point where a console may differ; 2 an error.
 import argparse
 import sys
 
+from psxgpu import console
 from psxgpu.command import SAME, decimal, title, writing
-from psxgpu.console import Choices, Frames, Source, make
+from psxgpu.console import Choices, Frames, make
 from psxgpu.console.plan import BLANKS
 from psxgpu.files import plain
-from psxgpu.output import refuse_inputs
+from psxgpu.output import Source, Target
 from psxgpu.players import player
 
 
 def arguments(parser: argparse.ArgumentParser) -> None:
     """Adds the arguments of this tool."""
-    parser.add_argument('capture', metavar='CAPTURE',
+    parser.add_argument('capture', type=Source, metavar='CAPTURE',
                         help='a capture of version 1 or 2, or a dump of a GPU; - is standard input')
-    parser.add_argument('-o', dest='out', metavar='EXE', required=True, help='the program; - is standard output')
+    parser.add_argument('-o', '--output', dest='out', type=Target, metavar='EXE', required=True,
+                        help='the program; - is standard output')
     parser.add_argument('--check', action='store_true', help='the program finally shows what differs')
     parser.add_argument('--blanks', choices=tuple(BLANKS), default='marks',
                         help='wait for a vertical blank at each mark (default), at each flip, or at none')
@@ -35,10 +37,9 @@ def arguments(parser: argparse.ArgumentParser) -> None:
 def run(words: argparse.Namespace) -> int:
     """Writes the program."""
     name = title(words.capture)
-    refuse_inputs(words.out, [words.capture])
     with plain(words.capture) as path:
         choices = Choices(words.check, words.blanks, words.pack, Frames(words.first, words.frames))
-        program = make(Source(player.find(words.player), path, name), choices)
+        program = make(console.Source(player.find(words.player), path, name), choices)
     with writing(words.out, [words.capture]) as file:
         file.write(program.executable)
     for line in program.warnings:

@@ -14,11 +14,13 @@ Status: 0 written, 2 an error, also if the capture has fewer frames. Then no fil
 import argparse
 import re
 import tempfile
-from typing import BinaryIO, List, Optional, Tuple
+from typing import IO, List, Optional, Tuple
 
-from psxgpu.command import ToolError, pour, title, writing
+from psxgpu.command import ToolError, pour, title
 from psxgpu.corpus.scan import FLIP, MARK, copy_first, frames
 from psxgpu.files import plain
+from psxgpu.output import Packed, Source, once
+from psxgpu.packing import packing
 from psxgpu.players import player
 from psxgpu.stream import SNAPSHOT
 
@@ -39,10 +41,9 @@ def frame_range(text: str) -> Range:
 
 def arguments(parser: argparse.ArgumentParser) -> None:
     """Adds the arguments of this tool."""
-    parser.add_argument('capture', metavar='CAPTURE', help='a capture or a dump of a GPU; - is standard input')
+    parser.add_argument('capture', type=Source, metavar='CAPTURE', help='a capture or a dump of a GPU; - is standard input')
     parser.add_argument('--frames', type=frame_range, required=True, metavar='A-B', help='the first and the last frame')
-    parser.add_argument('-o', '--output', default='-', metavar='OUTPUT',
-                        help='the snapshot to write; standard output if left out')
+    once(parser, 'output', Packed, 'the snapshot to write; standard output if left out', '-')
     parser.add_argument('--flips', action='store_true', help='a frame ends at each flip, even if there are marks')
     player.argument(parser)
 
@@ -70,7 +71,7 @@ def is_snapshot(path: str) -> bool:
         return file.read(len(SNAPSHOT)) == SNAPSHOT
 
 
-def trim(path: str, before: int, last: int, program: str, target: BinaryIO) -> None:
+def trim(path: str, before: int, last: int, program: str, target: IO[bytes]) -> None:
     """Writes the state after the first `before` events, and the events from there up to `last`. Raises ValueError if
     the capture is a snapshot: it has a state already."""
     if not before:
@@ -89,7 +90,7 @@ def trim(path: str, before: int, last: int, program: str, target: BinaryIO) -> N
 def run(words: argparse.Namespace) -> None:
     """Writes the frames."""
     program, name = player.find(words.player), title(words.capture)
-    with writing(words.output, [words.capture]) as target, plain(words.capture) as path:
+    with packing(words.output, [words.capture]) as target, plain(words.capture) as path:
         try:
             trim(path, *events_of(ends_of(path, words.flips), words.frames), program, target)
         except ValueError as error:

@@ -1,6 +1,7 @@
 """What a player is asked, and what it answers."""
 from __future__ import annotations
 
+import re
 from typing import Dict, List, Tuple
 
 from psxgpu.capture import Capture, display_mode, horizontal_range, vertical_range
@@ -8,6 +9,7 @@ from psxgpu.conformance.draft import HEIGHT, Picture
 from psxgpu.players.named import Done, Player, ending
 from psxgpu.vram import WIDTH
 
+WORD = re.compile('(0[xX])?[0-9a-fA-F]{1,8}')
 SECONDS = 20.0          # for one run of a player
 PROBES: Dict[str, Tuple[str, Capture]] = {
     'vram': ('vram', Capture()),
@@ -37,12 +39,15 @@ def read_words(out: bytes) -> List[int]:
     try:
         return [int(line, 16) for line in lines]
     except ValueError:
-        raise NoAnswer('play: a line that is not a word')
+        bad = next(line for line in lines if not WORD.fullmatch(line))
+        raise NoAnswer('play: %r is not a word' % bad[:20]) from None
 
 
 def picture_of(out: bytes) -> Picture:
     """Returns a picture in PPM. Raises NoAnswer for something else."""
     parts = out.split(maxsplit=3)
+    if out.startswith((b'P1', b'P2', b'P3', b'P4', b'P5')):
+        raise NoAnswer('shot: a picture of the kind %s, and not P6' % out[:2].decode())
     if len(parts) < 3 or parts[0] != b'P6' or not parts[1].isdigit() or not parts[2].isdigit():
         raise NoAnswer('shot: not a picture')
     width, height = int(parts[1]), int(parts[2])

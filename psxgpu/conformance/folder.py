@@ -11,7 +11,6 @@
 from __future__ import annotations
 
 import io
-import os
 import tempfile
 from typing import Dict, List, Optional, Sequence
 
@@ -22,10 +21,12 @@ from psxgpu.conformance.released import expectations
 from psxgpu.conformance.suite import Test
 from psxgpu.console import executable
 from psxgpu.dumps.export import About, Export
-from psxgpu.output import write_whole
+from psxgpu.output import Folder as Output
+from psxgpu.output import folder
 from psxgpu.players import player
 from psxgpu.stream import HEADS, SKIP, Stream, encode
 
+MAKER = 'psxgpu conform --write'
 MACHINE = frozenset(('dma', 'turns'))       # what a test needs whose capture is not flat
 
 
@@ -43,15 +44,13 @@ class Folder:
     """The folder that is written. `program`: the path of psxgpu_tool, or None. `has_programs`: programs for the
     console are written, too. `left_out`: how many files of each kind could not be made."""
 
-    def __init__(self, path: str, program: Optional[str], has_programs: bool = False) -> None:
-        self.path, self.program, self.has_programs = path, program, has_programs
+    def __init__(self, out: Output, program: Optional[str], has_programs: bool = False) -> None:
+        self.out, self.program, self.has_programs = out, program, has_programs
         self.left_out: Dict[str, int] = {}
 
     def put(self, kind: str, test: Test, ending: str, data: bytes) -> None:
         """Writes a file of a test."""
-        folder = os.path.join(self.path, kind, test.chapter)
-        os.makedirs(folder, exist_ok=True)
-        write_whole(os.path.join(folder, test.name + ending), data)
+        self.out.put('%s/%s%s' % (kind, test.full_name, ending), data)
 
     def leave_out(self, kind: str) -> None:
         """Counts a file that cannot be made."""
@@ -107,14 +106,12 @@ class Folder:
     def programs(self, tests: Sequence[Test]) -> int:
         """Writes the programs that hold many tests, and which square is which test. Returns how many no program
         holds."""
-        folder = os.path.join(self.path, 'programs')
-        os.makedirs(folder, exist_ok=True)
         lines = ['\t'.join(programs.COLUMNS)]
         for number, program in enumerate(programs.programs(tests), 1):
             name = 'suite-%d.exe' % number
-            write_whole(os.path.join(folder, name), program.executable())
+            self.out.put('programs/' + name, program.executable())
             lines += programs.places(name, program)
-        write_whole(os.path.join(folder, 'squares.tsv'), ('\n'.join(lines) + '\n').encode(), is_text=True)
+        self.out.put('programs/squares.tsv', ('\n'.join(lines) + '\n').encode())
         return sum(not programs.is_held(test) for test in tests)
 
 
@@ -123,18 +120,18 @@ def found_program(given: Optional[str]) -> Optional[str]:
     try:
         return player.find(given)
     except ToolError:
-        if given:
+        if player.is_named(given):
             raise
         return None
 
 
 def write(tests: Sequence[Test], path: str, program: Optional[str], has_programs: bool = False) -> List[str]:
     """Writes the files of tests into a folder. Returns a line for each kind of which some are left out."""
-    folder = Folder(path, program, has_programs)
-    os.makedirs(path, exist_ok=True)
-    for test in progress.counted(tests, path):
-        folder.test(test)
-    missing = folder.programs(tests)
-    write_whole(os.path.join(path, 'expected.tsv'), expectations(tests).encode(), is_text=True)
-    lines = ['%d %s are left out' % (count, kind) for kind, count in folder.left_out.items()]
+    with folder(path, MAKER) as out:
+        made = Folder(out, program, has_programs)
+        for test in progress.counted(tests, path):
+            made.test(test)
+        missing = made.programs(tests)
+        out.put('expected.tsv', expectations(tests).encode())
+    lines = ['%d %s are left out' % (count, kind) for kind, count in made.left_out.items()]
     return lines + (['%d tests are in none of programs/' % missing] if missing else [])

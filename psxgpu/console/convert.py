@@ -9,6 +9,7 @@ from psxgpu.console.image import Image, NoRoom
 from psxgpu.console.plan import Plan
 from psxgpu.console.source import Source
 from psxgpu.console.stretch import Frames, write_stretch
+from psxgpu.output import writing
 from psxgpu.stream import HEADS, READ, SKIP, STAT, Stream, encode
 
 
@@ -22,7 +23,7 @@ def crc_of_reads(flat: Source, plan: Plan) -> int:
     """Returns the CRC of the words that the plan reads, as psxgpu_tool has them: each read as one that is shown."""
     with tempfile.TemporaryDirectory(prefix='psxgpu') as folder:
         shown = flat._replace(path=os.path.join(folder, 'shown'))
-        with open(flat.path, 'rb') as file, open(shown.path, 'wb') as target:
+        with open(flat.path, 'rb') as file, writing(shown.path) as target:
             target.write(HEADS[2])
             for kind, count, words in Stream(file, flat.name):
                 if kind != STAT:

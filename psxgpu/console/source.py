@@ -5,6 +5,7 @@ import tempfile
 from typing import NamedTuple
 
 from psxgpu.command import ToolError
+from psxgpu.output import writing
 from psxgpu.players import player
 from psxgpu.stream import Stream
 
@@ -22,7 +23,7 @@ class Source(NamedTuple):
 
     def play(self, path: str, *words: str) -> None:
         """Writes into a file what a command of psxgpu_tool writes. ToolError if it refuses the capture."""
-        with open(self.path, 'rb') as source, open(path, 'wb') as target:
+        with open(self.path, 'rb') as source, writing(path) as target:
             done = subprocess.run([self.tool, *words], stdin=source, stdout=target, stderr=subprocess.PIPE)
         if done.returncode:
             raise ToolError('%s: %s' % (self.name, player.failure(done.returncode, done.stderr)))

@@ -6,6 +6,7 @@ from psxgpu.capture import Capture
 from psxgpu.command import ToolError
 from psxgpu.console.source import Source
 from psxgpu.console.unfinished import Unfinished
+from psxgpu.output import writing
 from psxgpu.players import player
 from psxgpu.stream import GP0, GP1, HEADS, READ, SKIP, Record, Stream, count_of, encode, first_events, later_events
 
@@ -76,7 +77,7 @@ def state(snapshot: IO[bytes]) -> List[bytes]:
 def write_stretch(flat: Source, frames: Frames, path: str) -> None:
     """Writes a stretch of a flat capture as a capture. ToolError if there is none."""
     begin, end = events_of(flat, frames)
-    with open(path, 'wb') as target, open(flat.path, 'rb') as file:
+    with writing(path) as target, open(flat.path, 'rb') as file:
         target.write(HEADS[2])
         if begin:
             with player.playing(flat.tool, ['cut', str(begin)], flat.path) as run:

@@ -5,9 +5,11 @@ from dataclasses import dataclass
 from typing import Dict, Iterable, Iterator, List, Sequence, Tuple
 
 from psxgpu.command import ToolError
+from psxgpu.output.folders import is_made_by
 from psxgpu.packing import ENDINGS
 
 # Names of captures. Files whose packed form ends in .gz, .xz or .zst are captures, too.
+REPORT = 'psxgpu corpus check'       # what wrote a folder of a report, whose captures are not part of the corpus
 NAMES = ('*.capture', '*.snapshot', '*.cap', '*.psxgpu')
 
 
@@ -43,7 +45,7 @@ def files_of(place: str, names: Sequence[str]) -> Iterator[Tuple[str, str]]:
         yield os.path.normpath(place), place
         return
     for folder, folders, files in os.walk(place):
-        folders.sort()
+        folders[:] = sorted(name for name in folders if not is_made_by(os.path.join(folder, name), REPORT))
         for file in sorted(files):
             base, ending = os.path.splitext(file)
             if any(fnmatch.fnmatch(file, name) or ending in ENDINGS and fnmatch.fnmatch(base, name) for name in names):

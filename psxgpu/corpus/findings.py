@@ -4,6 +4,7 @@ from typing import List, Optional, Sequence, Tuple
 
 from psxgpu.command import ToolError
 from psxgpu.corpus.sums import Frame, Row, Sums
+from psxgpu.errors import counted
 
 FAULTS = ('refused', 'fails', 'hangs', 'crashes')
 
@@ -80,8 +81,8 @@ def compare_rows(name: str, want: Optional[Row], got: Optional[Row], gives: Sequ
     if 'words' in gives and want.words != got.words and want.words and got.words:
         finding.kind = 'different'
         finding.other_words = True
-        finding.lines.append('words read: %d lines, recorded: %d' % (got.words[0], want.words[0])
-                             if got.words[0] != want.words[0] else 'words read, of %d lines' % got.words[0])
+        finding.lines.append('words read: %s, recorded: %d' % (counted(got.words[0], 'line'), want.words[0])
+                             if got.words[0] != want.words[0] else 'words read, of %s' % counted(got.words[0], 'line'))
     compare_ends(finding, want, got)
     return finding
 

@@ -6,10 +6,12 @@ import sys
 import time
 from typing import IO, Dict, Generator, Optional, Sequence, Set
 
-from psxgpu.command import ToolError, named, reason_of
+from psxgpu.command import ToolError, reason_of
 from psxgpu.corpus.captures import Capture
-from psxgpu.corpus.sums import Row, Sums, open_text, read_sums, write_text
+from psxgpu.corpus.sums import Row, Sums, as_bytes, read_sums, write_text
 from psxgpu.corpus.play import Player, size_and_sum
+from psxgpu.output import appending, remove
+from psxgpu.stopping import Stopped
 
 WEIGHT = 20000          # what starting a player costs, in bytes of a capture
 AHEAD = 4               # captures that wait, for each one that is played
@@ -79,11 +81,8 @@ class Journal:
 
     def add(self, row: Row) -> None:
         """Adds a row to the file."""
-        try:
-            with open_text(self.path, 'a') as file:
-                file.write(row.block())
-        except OSError as error:
-            raise named(error, self.path) from None
+        with appending(self.path) as file:
+            file.write(as_bytes(row.block()))
         self.sums.rows[row.name] = row
 
 
@@ -136,12 +135,12 @@ def play_into(path: str, player: Player, captures: Sequence[Capture], jobs: int,
                 progress.row(row)
         expect_played(rows)
         write_text(path, journal.sums.text())
-        os.remove(journal.path)
+        remove(journal.path)
     except Nothing:
-        os.remove(journal.path)
+        remove(journal.path)
         raise
-    except (OSError, KeyboardInterrupt) as error:
-        text = 'interrupted' if isinstance(error, KeyboardInterrupt) else reason_of(error)
-        raise ToolError('%s; %d of %d captures are kept in %s: run it again to go on'
-                      % (text, len(rows), len(captures), journal.path)) from error
+    except (OSError, Stopped) as error:
+        text = '%s; %d of %d captures are kept in %s: run it again to continue' % (
+            reason_of(error) if isinstance(error, OSError) else error, len(rows), len(captures), journal.path)
+        raise (ToolError(text) if isinstance(error, OSError) else Stopped(error.number, text)) from error
     return journal.sums

@@ -1,5 +1,4 @@
 """One run of a player: how it ended, and what it wrote."""
-import contextlib
 import os
 import signal
 import subprocess
@@ -8,6 +7,7 @@ import threading
 from typing import IO, List, cast
 
 from psxgpu.command import named
+from psxgpu.stopping import kill, session
 
 PIECE = 1 << 16
 HELD = 1 << 20                  # what is read of a player before a file takes it
@@ -19,20 +19,16 @@ class Run:
     def __init__(self, words: List[str], source: IO[bytes], limit: float) -> None:
         self.out: IO[bytes] = tempfile.SpooledTemporaryFile(HELD)   # pylint: disable=consider-using-with
         with tempfile.TemporaryFile() as err:
-            self.child = subprocess.Popen(words, stdin=source, stdout=subprocess.PIPE, stderr=err,
-                                          start_new_session=True)
-            self.is_late = False
-            clock = threading.Timer(limit, self.stop)
-            clock.start()
-            out = cast(IO[bytes], self.child.stdout)
-            try:
-                self.take(out)
-            except BaseException:
-                self.kill()
-                raise
-            finally:
-                clock.cancel()
-                out.close()
+            with session(words, stdin=source, stdout=subprocess.PIPE, stderr=err) as self.child:
+                self.is_late = False
+                clock = threading.Timer(limit, self.stop)
+                clock.start()
+                out = cast(IO[bytes], self.child.stdout)
+                try:
+                    self.take(out)
+                finally:
+                    clock.cancel()
+                    out.close()
                 status = self.child.wait()
             err.seek(0)
             error = err.read(4096).decode('utf-8', 'replace')
@@ -41,12 +37,7 @@ class Run:
     def stop(self) -> None:
         """Ends a player that takes too long."""
         self.is_late = True
-        self.kill()
-
-    def kill(self) -> None:
-        """Ends the player and what it has started, which are a session of their own."""
-        with contextlib.suppress(ProcessLookupError):
-            os.killpg(self.child.pid, signal.SIGKILL)
+        kill(self.child)
 
     def take(self, pipe: IO[bytes]) -> None:
         """Reads what the player writes up to its end."""

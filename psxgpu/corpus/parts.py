@@ -1,14 +1,13 @@
 """Cuts a recording after some of its frames: the first part is a capture, the others are snapshots that continue it."""
-import os
-import shutil
 import tempfile
-from typing import List, Sequence, Tuple
+from typing import IO, List, Sequence, Tuple
 
-from psxgpu.command import ToolError, writing
+from psxgpu.command import ToolError, pour
 from psxgpu.corpus.play import Player
 from psxgpu.corpus.scan import FLIP, copy_first, frames
+from psxgpu.errors import counted
 from psxgpu.files import plain
-from psxgpu.output import refuse_inputs
+from psxgpu.output import Tree, folder
 from psxgpu.stream import SNAPSHOT
 
 
@@ -24,7 +23,7 @@ def places(path: str, parts: int, opcode: int) -> List[int]:
     wanted = [last * k // parts for k in range(1, parts)]
     chosen = sorted({nearest(found, want) for want in wanted} if found else set())
     if len(chosen) + 1 < parts:
-        raise ValueError('%d frames, too few for %d parts' % (len(found), parts))
+        raise ValueError('%s, too few for %d parts' % (counted(len(found), 'frame'), parts))
     return chosen + [last]
 
 
@@ -34,20 +33,20 @@ def is_snapshot(path: str) -> bool:
         return file.read(len(SNAPSHOT)) == SNAPSHOT
 
 
-def write_part(path: str, name: str, events: Tuple[int, int], target: str, player: Player) -> None:
+def write_part(path: str, name: str, events: Tuple[int, int], out: IO[bytes], player: Player) -> None:
     """Writes the events after the first of `events` up to the second. `name` is what messages call the recording."""
     before, last = events
-    with tempfile.TemporaryFile() as first, writing(target) as out:
+    with tempfile.TemporaryFile() as first:
         copy_first(path, last, first if before else out)
         if before:
             first.seek(0)
             with player.run('cut %d' % before, first) as run:
                 if run.end != 'played':
                     raise ToolError('%s: cut %d: %s' % (name, before, run.end))
-                shutil.copyfileobj(run.out, out)
+                pour(run.out, out)
 
 
-def split(path: str, parts: int, folder: str, player: Player, opcode: int = FLIP) -> None:
+def split(path: str, parts: int, target: Tree, player: Player, opcode: int = FLIP) -> None:
     """Writes the parts of a recording into a folder, and prints their names."""
     with plain(path) as whole:
         if is_snapshot(whole):
@@ -56,10 +55,10 @@ def split(path: str, parts: int, folder: str, player: Player, opcode: int = FLIP
             ends = places(whole, parts, opcode)
         except ValueError as error:
             raise ToolError('%s: %s' % (path, error)) from error
-        os.makedirs(folder, exist_ok=True)
         names = ['%03d.%s' % (k, 'snapshot' if k > 1 else 'capture') for k in range(1, len(ends) + 1)]
-        for name in names:
-            refuse_inputs(os.path.join(folder, name), [path])
+        with folder(target) as made:
+            for name, before, last in zip(names, [0] + ends, ends):
+                with made.writing(name) as out:
+                    write_part(whole, path, (before, last), out, player)
         for name, before, last in zip(names, [0] + ends, ends):
-            write_part(whole, path, (before, last), os.path.join(folder, name), player)
             print('%s: events %d to %d' % (name, before + 1, last))

@@ -8,6 +8,8 @@ from psxgpu.corpus.scan import copy_first, frames
 from psxgpu.difference import compared
 from psxgpu.image import png, read_picture
 
+NAMES = ('the player', 'the reference')
+
 
 class Places:
     """Finds the first packet after which a player differs from another, and draws the difference."""
@@ -59,7 +61,7 @@ class Places:
             ours, theirs = self.dumps(path, middle, reference)
             low, high = (middle, high) if ours == theirs else (low, middle)
         finding.lines.append('first packet: ' + self.packet(path, high, reference))
-        finding.lines += difference.lines()
+        finding.lines += difference.lines(NAMES)
 
     def first_word(self, finding: Finding, path: str, last: int, reference: Player) -> None:
         """Adds the first line of `play` that is another one."""
@@ -67,7 +69,7 @@ class Places:
                  for player in (self.player, reference)]
         at = next((k for k, (a, b) in enumerate(zip(*sides)) if a != b), min(map(len, sides)))
         one, other = (lines[at] if at < len(lines) else 'none' for lines in sides)
-        finding.lines.append('first differing word: line %d: %s and %s' % (at + 1, one, other))
+        finding.lines.append('first differing word: line %d: %s %s, %s %s' % (at + 1, NAMES[0], one, NAMES[1], other))
 
     def packet(self, path: str, event: int, reference: Player) -> str:
         """Returns the line of `list` for an event. A data word of a load has none: then it is that of the load."""

@@ -13,7 +13,8 @@ from psxgpu.corpus.sums import Frame, Row
 from psxgpu.corpus.scan import reads_before
 from psxgpu.files import plain
 from psxgpu.packing import Damaged
-from psxgpu.players.named import CommandPlayer
+from psxgpu.players.named import CommandPlayer, dump_of
+from psxgpu.players.trial_run import try_player
 
 LINE, STATUS = 9, 16            # bytes of a line of `play`: eight digits and the end of the line; of its last line
 GIVES = ('frames', 'marks', 'vram', 'words')
@@ -28,7 +29,7 @@ class Player:
     """A shell command, in which the word `vram` is the place of the mode; else the mode is added at its end."""
 
     def __init__(self, command: str, limit: float = 60, gives: Sequence[str] = ('vram',)) -> None:
-        self.command = CommandPlayer(command, appends=True)
+        self.command = CommandPlayer(command)
         self.program = self.command.program()
         if self.program is None:
             raise ToolError('%s: there is no such player' % command)
@@ -48,6 +49,11 @@ class Player:
             source.seek(0)
             with self.run(word, source) as run:
                 return run.out.readline().decode('utf-8', 'replace').strip() if run.end == 'played' else ''
+
+    def ask_first(self) -> None:
+        """Raises ToolError if it writes dumps, and these do not start as zeros, are not whole or are not always the same."""
+        if self.gives != ('words',) and dump_of(self.command.run('vram', EMPTY, self.limit)):
+            try_player(self.command, seconds=self.limit)
 
     def identity(self) -> str:
         """Returns its version, and a sum of the program's file, so that what two builds write is not mixed."""

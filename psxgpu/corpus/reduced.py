@@ -6,22 +6,24 @@ import tempfile
 from typing import List
 
 from psxgpu.command import ToolError
+from psxgpu.errors import counted
 from psxgpu.corpus.findings import Finding
 from psxgpu.corpus.play import Player
 from psxgpu.corpus.scan import copy_first, frames
+from psxgpu.output import Folder
 from psxgpu.players.flat import flattened
 from psxgpu.reduce.faults import DumpsDiffer, Fault, WordsDiffer
 from psxgpu.reduce.job import Job, Wanted
-from psxgpu.reduce.report import counted, report_lines, write_all
+from psxgpu.reduce.report import files_of, report_lines
 
 
-def reduce_finding(finding: Finding, path: str, player: Player, reference: Player, folder: str) -> None:
+def reduce_finding(finding: Finding, path: str, player: Player, reference: Player, out: Folder) -> None:
     """Writes the reduced capture of a finding that says `different` into a folder, and adds to the finding what it is.
     A finding that cannot be reduced gets a line that says why."""
     faults: List[Fault] = [DumpsDiffer()] + ([WordsDiffer()] if finding.other_words else [])
     last = frames(path)[1]
     notes = ['ours: ' + reference.command.text, 'theirs: ' + player.command.text]
-    name = os.path.join(folder, os.path.splitext(finding.name.replace('/', '-'))[0])
+    name = os.path.splitext(finding.name.replace('/', '-'))[0]
     try:
         with tempfile.NamedTemporaryFile(prefix='psxgpu') as part:
             copy_first(path, last if finding.high is None else min(finding.high, last), part)
@@ -31,9 +33,9 @@ def reduce_finding(finding: Finding, path: str, player: Player, reference: Playe
                     with Job(reference.command, player.command, Wanted(fault, []), reference.limit) as job:
                         found = job.result(flat, finding.name)
                     if found:
-                        write_all(found, name, notes)
-                        finding.lines.append('reduced: %s, %s: %s.capture' % (
-                            counted(len(found.units), 'packet'), counted(found.words, 'word'), name))
+                        paths = [out.put(file.path, file.data) for file in files_of(found, name, notes)]
+                        finding.lines.append('reduced: %s, %s: %s' % (
+                            counted(len(found.units), 'packet'), counted(found.words, 'word'), paths[0]))
                         finding.lines += report_lines(found)[2:]
                         return
         finding.lines.append('not reduced: the first events alone show no difference')

@@ -20,7 +20,7 @@ SECONDS` or `crashes SIGNAL`. What the player does not give has no line.
 """
 import hashlib
 from dataclasses import dataclass, field
-from typing import IO, Dict, List, Optional, Tuple
+from typing import Dict, List, Optional, Tuple
 
 from psxgpu.command import ToolError, named, write_whole
 
@@ -101,14 +101,14 @@ class Sums:
         return self.head() + ''.join(self.rows[name].block() for name in sorted(self.rows))
 
 
-def open_text(path: str, mode: str = 'r') -> IO[str]:
-    """Opens a file of sums. Names of files need not be UTF-8: such bytes come through unchanged."""
-    return open(path, mode, encoding='utf-8', errors='surrogateescape', newline='\n')
+def as_bytes(text: str) -> bytes:
+    """Returns the bytes of a text. Names of files need not be UTF-8: such bytes come through unchanged."""
+    return text.encode('utf-8', 'surrogateescape')
 
 
 def write_text(path: str, text: str) -> None:
     """Writes a text so that the file that was there stays until the new one is whole."""
-    write_whole(path, text.encode('utf-8', 'surrogateescape'), is_text=True)
+    write_whole(path, as_bytes(text), is_text=True)
 
 
 def first_row(line: str, value: str) -> Row:
@@ -135,7 +135,7 @@ def read_head(lines: List[str], path: str) -> Sums:
 def read_lines(path: str, is_whole: bool) -> List[str]:
     """Returns the lines of a file. If it may be cut, a last line without its end is left out."""
     try:
-        with open_text(path) as file:
+        with open(path, encoding='utf-8', errors='surrogateescape', newline='\n') as file:
             lines = file.readlines()
     except OSError as error:
         raise named(error, path) from None

@@ -5,6 +5,7 @@ from typing import TYPE_CHECKING, Dict, Iterator, List, Tuple
 
 from psxgpu import progress
 from psxgpu.command import ToolError
+from psxgpu.errors import counted
 from psxgpu.players.named import Player, ending
 from psxgpu.players.probes import DRAWN, END, HEAD, Events, Target, probed, size, targets, whole
 
@@ -97,6 +98,11 @@ class Row:
         self.first = ''
         self.event = 0      # after the first packet that differs and its data words
 
+    def as_object(self) -> Dict[str, object]:
+        """Returns what was found, for JSON."""
+        return dict(packets=self.packets, equal=self.equal, cells=self.cells, differ=self.differ, far=self.far,
+                    first=self.first, event=self.event)
+
     def take(self, target: Target, event: int, ours: Words, others: Words) -> None:
         """Adds a packet: the words that both players read after it, which is after `event`."""
         self.packets += 1
@@ -113,8 +119,8 @@ class Row:
             self.event = event
             k = next(k for k in range(len(mine)) if mine[k] != theirs[k])
             x1, y1, x2, _ = target.box
-            self.first = 'event %d %08x: %d cells, first (%d, %d): %04x and %04x' % (
-                target.event, target.word, count, x1 + k % (x2 - x1 + 1), y1 + k // (x2 - x1 + 1), mine[k], theirs[k])
+            self.first = 'event %d %08x: %s, first (%d, %d): ours %04x, theirs %04x' % (
+                target.event, target.word, counted(count, 'cell'), x1 + k % (x2 - x1 + 1), y1 + k // (x2 - x1 + 1), mine[k], theirs[k])
 
 
 def audit(data: bytes, ours: Player, theirs: Player, first: int, last: int, name: str = 'capture') -> Dict[str, Row]:

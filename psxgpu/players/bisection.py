@@ -3,7 +3,9 @@ import itertools
 import tempfile
 from typing import Callable, Iterator, List, Optional, Sequence, Tuple
 
+from psxgpu import progress
 from psxgpu.command import reading
+from psxgpu.errors import counted
 from psxgpu.packets.control import control
 from psxgpu.packets.fields import fields
 from psxgpu.packets.grammar import LOAD
@@ -20,15 +22,18 @@ def bisect(count: int, differs: Callable[[int], bool],
     with the bounds before each question."""
     if not differs(count):
         return None
-    low, high = 0, count
-    while low < high:
-        if narrow:
-            narrow(low - 1, high)
-        middle = (low + high) // 2
-        if differs(middle):
-            high = middle
-        else:
-            low = middle + 1
+    low, high, asked = 0, count, 1
+    with progress.shown('bisect', is_quiet=True) as line:
+        while low < high:
+            line.part = asked / (asked + (high - low).bit_length())
+            if narrow:
+                narrow(low - 1, high)
+            middle, asked = (low + high) // 2, asked + 1
+            if differs(middle):
+                high = middle
+            else:
+                low = middle + 1
+        line.part = None
     return low
 
 
@@ -72,5 +77,5 @@ def step_text(steps: Steps, k: int, path: str, program: str) -> List[str]:
     elif lines and lines[0].split()[1] == LOAD:
         return lines + ['    its data words, %d together' % len(words)]
     else:
-        text = '%d words of a packet that is not whole' % len(words)
+        text = '%s of a packet that is not whole' % counted(len(words), 'word')
     return lines + ['and then ' + text] if lines else [text]

@@ -8,7 +8,7 @@ from typing import Iterator, List, Optional, Tuple
 
 from psxgpu.corpus.scan import copy_first
 from psxgpu.players import player
-from psxgpu.errors import ToolError
+from psxgpu.errors import ToolError, counted
 
 MEMORY = 'vram'
 
@@ -83,7 +83,7 @@ def check_whole(names: Tuple[str, str], sides: Tuple[Frames, Frames], frames: in
     """Raises `ToolError` if the player refuses one of the recordings."""
     for name, side in zip(names, sides):
         if side.refusal:
-            raise ToolError('%s: %s; %d frames before that are equal' % (name, side.refusal, frames))
+            raise ToolError('%s: %s; equal before that: %s' % (name, side.refusal, counted(frames, 'frame')))
 
 
 def frame_lines(number: int, pair: Tuple[Optional[Frame], Optional[Frame]]) -> List[str]:
@@ -91,7 +91,7 @@ def frame_lines(number: int, pair: Tuple[Optional[Frame], Optional[Frame]]) -> L
     ours, theirs = pair
     if ours and theirs:
         return ['first differing frame: %d, event %d and event %d' % (number, ours.event, theirs.event),
-                '%s and %s' % (ours.text(), theirs.text())]
+                'ours %s, theirs %s' % (ours.text(), theirs.text())]
     there = ours or theirs
     assert there
     return ['first differing frame: %d, event %d of %s alone' % (number, there.event, 'ours' if ours else 'theirs'),
@@ -116,9 +116,9 @@ def first_difference(names: Tuple[str, str], paths: Tuple[str, str], program: st
             finding.frames += 1
     check_whole(names, sides, finding.frames)
     finding.is_other_memory = sides[0].memory != sides[1].memory
-    finding.lines = ['equal: %d frames%s' % (finding.frames, '' if finding.is_other_memory else ', and video memory')]
+    finding.lines = ['equal: %s%s' % (counted(finding.frames, 'frame'), '' if finding.is_other_memory else ', and video memory')]
     if finding.is_other_memory:
-        finding.lines.append('video memory after the end differs: %s and %s' % (sides[0].memory, sides[1].memory))
+        finding.lines.append('video memory after the end differs: ours %s, theirs %s' % (sides[0].memory, sides[1].memory))
     return finding
 
 

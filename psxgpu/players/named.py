@@ -1,8 +1,8 @@
 """How a user names a player, and one run of it.
 
 A player is a shell command that reads a capture on standard input. In it, the word `vram` is the place of the mode:
-`psxgpu_tool vram` becomes `psxgpu_tool play` for a tool that needs words. To a command without that word, `agree`,
-`audit` and `corpus` append the mode; `bisect` and `reduce` run it unchanged.
+`psxgpu_tool vram` becomes `psxgpu_tool play` for a tool that needs words. To a command without that word, the mode is
+added at its end. So a command that takes no mode has the word in a comment: `my_player # vram`.
 
     player = player_of('psxgpu_tool vram')
     done = player.run('vram', data)         # data: the bytes of a capture
@@ -21,10 +21,12 @@ import subprocess
 from typing import List, NamedTuple, Optional
 
 from psxgpu.command import ToolError
+from psxgpu.errors import counted
 from psxgpu.vram import WIDTH
 from psxgpu.machine import MODES, play
 from psxgpu.machine.library import Missing, OutOfMemory, Refused, library
 from psxgpu.players import player as program
+from psxgpu.stopping import kill, session
 
 OWN = 'psxgpu_tool'
 WORD = re.compile(r'(?<!\S)vram(?!\S)')
@@ -43,18 +45,19 @@ class Done(NamedTuple):
 class Player:
     """Base of all players: `text` is its name in messages."""
     text = 'a player'
+    seconds: Optional[float] = None         # for each run, unless it is given other seconds
 
     def run(self, mode: str, data: bytes, seconds: Optional[float] = None) -> Done:
         """Runs the player on the capture `data`. Ends it after `seconds`, if they are given."""
         raise NotImplementedError
 
 
-def with_mode(command: str, mode: str, appends: bool) -> str:
-    """Returns the shell command for a mode: in the place of its last word `vram`; else, if `appends`, at its end."""
+def with_mode(command: str, mode: str) -> str:
+    """Returns the shell command for a mode: in the place of its last word `vram`, else at its end."""
     places = list(WORD.finditer(command))
     if places:
         return command[:places[-1].start()] + mode + command[places[-1].end():]
-    return '%s %s' % (command, mode) if appends else command
+    return '%s %s' % (command, mode)
 
 
 def arguments_of(command: str) -> List[str]:
@@ -72,14 +75,14 @@ def arguments_of(command: str) -> List[str]:
 class CommandPlayer(Player):
     """A player that is a process of its own in each run."""
 
-    def __init__(self, command: str, appends: bool = False) -> None:
+    def __init__(self, command: str, seconds: Optional[float] = None) -> None:
         # A path is taken as it is, spaces and all.
         is_path = os.path.isfile(command) and os.access(command, os.X_OK)
-        self.text, self.command, self.appends = command, shlex.quote(command) if is_path else command, appends
+        self.text, self.command, self.seconds = command, shlex.quote(command) if is_path else command, seconds
 
     def arguments(self, mode: str) -> List[str]:
         """Returns the arguments of its process."""
-        return arguments_of(with_mode(self.command, mode, self.appends))
+        return arguments_of(with_mode(self.command, mode))
 
     def program(self) -> Optional[str]:
         """Returns the path of the program that it starts, which may be a shell; None if there is no such program."""
@@ -89,25 +92,16 @@ class CommandPlayer(Player):
     def run(self, mode: str, data: bytes, seconds: Optional[float] = None) -> Done:
         words = self.arguments(mode)
         try:
-            child = subprocess.Popen(words, stdin=subprocess.PIPE, stdout=subprocess.PIPE, stderr=subprocess.PIPE,
-                                     start_new_session=True)
+            with session(words, stdin=subprocess.PIPE, stdout=subprocess.PIPE, stderr=subprocess.PIPE) as child:
+                try:
+                    out, err = child.communicate(data, self.seconds if seconds is None else seconds)
+                except subprocess.TimeoutExpired:
+                    kill(child)
+                    child.communicate()
+                    return Done(None, b'', b'')
         except OSError as error:
             raise ToolError('%s: %s' % (words[0], error.strerror)) from error
-        try:
-            out, err = child.communicate(data, seconds)
-        except subprocess.TimeoutExpired:
-            self.end(child)
-            return Done(None, b'', b'')
-        except BaseException:
-            self.end(child)
-            raise
         return Done(child.returncode, out, err)
-
-    @staticmethod
-    def end(child: subprocess.Popen[bytes]) -> None:
-        """Ends the process and what it started, which is a session of its own."""
-        os.killpg(child.pid, signal.SIGKILL)
-        child.communicate()
 
 
 class LibraryPlayer(Player):
@@ -137,11 +131,11 @@ def is_own(words: List[str]) -> bool:
         return False
 
 
-def player_of(command: str, appends: bool = False) -> Player:
-    """Returns the player that a command names. `appends`: the mode is added to a command without `vram`."""
-    found = CommandPlayer(command, appends)
+def player_of(command: str, seconds: Optional[float] = None) -> Player:
+    """Returns the player that a command names. `seconds`: for each run."""
     if not command.strip():
         raise ToolError('a player without a name')
+    found = CommandPlayer(command, seconds)
     if is_own(found.arguments('vram')):
         try:
             if library().play:
@@ -162,22 +156,29 @@ def ending(done: Done) -> str:
         return 'no end in time'
     if done.status < 0:
         return 'ended by %s' % signal.Signals(-done.status).name
-    said = done.err.decode(errors='replace').strip().splitlines()
-    if not said:
-        return 'status %d, %d bytes' % (done.status, len(done.out))
-    line = said[0][len(PREFIX):] if said[0].startswith(PREFIX) else said[0]
+    line = said_last(done.err)
+    if not line:
+        return 'status %d, %s' % (done.status, counted(len(done.out), 'byte'))
     return 'status %d, %s' % (done.status, line if len(line) <= SAID else line[:SAID] + '..')
 
 
+def said_last(err: bytes) -> str:
+    """Returns the line of standard error that says why a run failed: the last one, of our own program the first."""
+    lines = err.decode(errors='replace').strip().splitlines()
+    own = [line[len(PREFIX):] for line in lines if line.startswith(PREFIX)]
+    return own[0] if own else lines[-1].strip() if lines else ''
+
+
+def no_dump(player: Player, done: Done) -> ToolError:
+    """Returns the error of a run that wrote no dump."""
+    hint = ': a player reads the capture on standard input, as from < FILE' if player.text.split()[-1:] == ['-'] else ''
+    return ToolError('%s: no dump (%s)%s' % (player.text, ending(done), hint))
+
+
 def expect_dump(player: Player, data: bytes, seconds: Optional[float] = None) -> bytes:
-    """Returns the dump of a capture. Raises ToolError if there is none; it suggests the word `vram` if that helps."""
+    """Returns the dump of a capture. Raises ToolError if there is none."""
     done = player.run('vram', data, seconds)
     dump = dump_of(done)
-    if dump is not None:
-        return dump
-    meant = '%s vram' % player.text
-    hint = ''
-    if isinstance(player, CommandPlayer) and not WORD.search(player.command) and not player.appends:
-        if dump_of(CommandPlayer(meant).run('vram', data, seconds)) is not None:
-            hint = ': is %r meant?' % meant
-    raise ToolError('%s: no dump (%s)%s' % (player.text, ending(done), hint))
+    if dump is None:
+        raise no_dump(player, done)
+    return dump

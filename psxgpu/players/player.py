@@ -8,7 +8,8 @@ import tempfile
 from typing import IO, Iterator, List, Optional, Union
 
 from psxgpu import progress
-from psxgpu.command import ToolError, pour
+from psxgpu.command import BLOCK, ToolError, decimal
+from psxgpu.output import Command
 
 TOP = os.path.dirname(os.path.dirname(os.path.dirname(os.path.abspath(__file__))))
 BUILT = os.path.join(TOP, 'crates', 'psxgpu_tool', 'out', 'psxgpu_tool')
@@ -17,18 +18,42 @@ REFUSED = 2
 
 def argument(parser: argparse.ArgumentParser) -> None:
     """Adds the argument that names psxgpu_tool."""
-    parser.add_argument('--player', metavar='PROGRAM',
+    parser.add_argument('--player', type=Command, metavar='PROGRAM',
                         help='psxgpu_tool to use (default: that of $PLAYER, of the path, or of the checkout)')
 
 
+def seconds_argument(parser: argparse.ArgumentParser, default: int = 60) -> None:
+    """Adds the argument that limits the time of a player."""
+    parser.add_argument('--seconds', type=decimal(1, 86400), default=default, metavar='N',
+                        help='for one run of a player (default: %(default)s)')
+
+
+def program_of(name: str, origin: str) -> str:
+    """Returns the path of a program that is named. Raises ToolError if it is none."""
+    path = shutil.which(name)
+    if path is None:
+        raise ToolError('%s: not a program' % (origin + name))
+    return path
+
+
+def is_named(given: Optional[str]) -> bool:
+    """Returns whether a program is named, by an argument or by $PLAYER."""
+    return bool(given or os.environ.get('PLAYER'))
+
+
 def find(given: Optional[str] = None) -> str:
-    """Returns the path of the program: `given`, or the one that is found. Raises ToolError if there is none."""
-    for path in (given, os.environ.get('PLAYER'), shutil.which('psxgpu_tool'), BUILT):
-        if path and os.access(path, os.X_OK) and os.path.isfile(path):
-            return path
-        if path and path == given:
-            raise ToolError('%s: not a program' % given)
-    raise ToolError('psxgpu_tool is not on the path: build it with `make run`, or name it with --player')
+    """Returns the path of the program: `given`, that of $PLAYER, of the path, or of the checkout. Raises ToolError if the
+    one that is named is not there, or if there is none."""
+    if given:
+        return program_of(given, '')
+    named = os.environ.get('PLAYER')
+    if named:
+        return program_of(named, 'PLAYER=')
+    path = shutil.which('psxgpu_tool') or shutil.which(BUILT)
+    if path is None:
+        hint = 'build it with `make run`' if os.path.isdir(os.path.dirname(os.path.dirname(BUILT))) else 'install it'
+        raise ToolError('psxgpu_tool is not on the path: %s, or name it with --player' % hint)
+    return path
 
 
 def failure(status: int, err: bytes) -> str:
@@ -91,7 +116,8 @@ def answer(player: str, words: List[str], path: str) -> bytes:
 
 def refusal(player: str, path: str) -> str:
     """Returns the line with which the program refuses a capture; empty if it plays it."""
-    with open(os.devnull, 'wb') as nothing, playing(player, ['play'], path) as run:
-        pour(run.out, nothing)
+    with playing(player, ['play'], path) as run:
+        while run.out.read(BLOCK):
+            pass
         status = run.end()
         return failure(status, run.said()) if status else ''

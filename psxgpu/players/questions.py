@@ -52,6 +52,10 @@ class Questions:
         for kind, count, words in Stream(self.file, 'questions'):
             yield Record(kind, count, words)
 
+    def close(self) -> None:
+        """Ends the use of the file."""
+        self.file.close()
+
     def answers(self, program: str) -> Iterator[Answer]:
         """Yields the answers in the order of the questions. `program`: psxgpu_tool, which plays without the library."""
         try:

@@ -5,15 +5,17 @@ import base64
 import html
 import os
 import tempfile
-from typing import Dict, List, NamedTuple, Optional, Tuple
+from typing import Dict, List, NamedTuple, Tuple
 
 from psxgpu import progress
-from psxgpu.command import ToolError, write_whole
+from psxgpu.command import ToolError
+from psxgpu.errors import counted
+from psxgpu.output import Content, Tree, folder
 from psxgpu.players.audit import Row
 from psxgpu.players.named import Player
 from psxgpu.reduce.faults import DumpsDiffer
 from psxgpu.reduce.job import Job, Wanted
-from psxgpu.reduce.report import report_lines, write_all
+from psxgpu.reduce.report import files_of, report_lines
 
 PAGE = '''<!doctype html>
 <html lang="en"><meta charset="utf-8"><title>%(name)s, by classes</title><style>
@@ -36,14 +38,14 @@ LINE = ('<tr><td>%s</td><td class="number">%d</td><td class="number">%d</td><td>
 
 
 class Entry(NamedTuple):
-    """A class: its row of the audit, the lines of its reduced capture, and the paths that were written."""
+    """A class: its row of the audit, the lines of its reduced capture, and its files."""
     kind: str
     row: Row
     lines: List[str]
-    paths: List[str]
+    files: List[Content]
 
 
-def reduced_entry(kind: str, row: Row, flat: str, name: str, players: Tuple[Player, Player], folder: str) -> Entry:
+def reduced_entry(kind: str, row: Row, flat: str, name: str, players: Tuple[Player, Player]) -> Entry:
     """Reduces the first packet of a class that differs."""
     wanted = Wanted(DumpsDiffer(), [], keep=True, event=row.event)
     try:
@@ -54,40 +56,37 @@ def reduced_entry(kind: str, row: Row, flat: str, name: str, players: Tuple[Play
     if found is None:
         return Entry(kind, row, ['not shown by dumps'], [])
     notes = ['ours: ' + players[0].text, 'theirs: ' + players[1].text]
-    paths = write_all(found, os.path.join(folder, kind.replace(' ', '-')), notes)
-    return Entry(kind, row, report_lines(found), paths)
+    return Entry(kind, row, report_lines(found), list(files_of(found, kind.replace(' ', '-'), notes)))
 
 
-def picture(paths: List[str]) -> str:
+def picture(files: List[Content]) -> str:
     """Returns the picture of an entry as a part of the page."""
-    path: Optional[str] = next((path for path in paths if path.endswith('.png')), None)
-    if path is None:
-        return ''
-    with open(path, 'rb') as file:
-        return '<img alt="" src="data:image/png;base64,%s">' % base64.b64encode(file.read()).decode('ascii')
+    return ''.join('<img alt="" src="data:image/png;base64,%s">' % base64.b64encode(file.data).decode('ascii')
+                   for file in files if file.path.endswith('.png'))
 
 
 def page(name: str, players: Tuple[Player, Player], entries: List[Entry]) -> str:
     """Returns the page."""
     lines = []
     for entry in entries:
-        links = ' '.join('<a href="%s">%s</a>' % (html.escape(os.path.basename(path)), os.path.splitext(path)[1][1:])
-                         for path in entry.paths)
+        links = ' '.join('<a href="%s">%s</a>' % (html.escape(file.path), os.path.splitext(file.path)[1][1:])
+                         for file in entry.files)
         lines.append(LINE % (html.escape(entry.kind), entry.row.packets, entry.row.packets - entry.row.equal,
-                             html.escape('\n'.join(entry.lines)), links, picture(entry.paths)))
+                             html.escape('\n'.join(entry.lines)), links, picture(entry.files)))
     return PAGE % dict(name=html.escape(name), ours=html.escape(players[0].text), theirs=html.escape(players[1].text),
                        rows='\n'.join(lines))
 
 
-def reduce_classes(data: bytes, name: str, rows: Dict[str, Row], ours: Player, theirs: Player, folder: str) -> None:
-    """Reduces each class of an audit that differs, in the flat capture `data`, and writes the page into `folder`."""
-    os.makedirs(folder, exist_ok=True)
-    with tempfile.NamedTemporaryFile(prefix='psxgpu') as flat:
+def reduce_classes(data: bytes, name: str, rows: Dict[str, Row], ours: Player, theirs: Player, path: Tree) -> None:
+    """Reduces each class of an audit that differs, in the flat capture `data`, and writes a folder with the page."""
+    with folder(path) as out, tempfile.NamedTemporaryFile(prefix='psxgpu') as flat:
         flat.write(data)
         flat.flush()
         kinds = sorted(kind for kind in rows if rows[kind].differ)
-        entries = [reduced_entry(kind, rows[kind], flat.name, name, (ours, theirs), folder)
+        entries = [reduced_entry(kind, rows[kind], flat.name, name, (ours, theirs))
                    for kind in progress.counted(kinds, 'reduce')]
-    write_whole(os.path.join(folder, 'index.html'), page(name, (ours, theirs), entries).encode(), is_text=True)
-    words = [sum(path.endswith('.capture') for path in entry.paths) for entry in entries]
-    print('%d classes reduced: %s' % (sum(words), os.path.join(folder, 'index.html')))
+        for entry in entries:
+            for file in entry.files:
+                out.put(file.path, file.data)
+        index = out.put('index.html', page(name, (ours, theirs), entries).encode(errors='replace'))
+    print('%s reduced: %s' % (counted(sum(bool(entry.files) for entry in entries), 'class', 'es'), index))

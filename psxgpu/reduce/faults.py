@@ -1,13 +1,13 @@
 """What is looked for in a capture: dumps that differ, words that differ, a player that breaks down."""
 from __future__ import annotations
 
-from typing import List, NamedTuple, Optional, Tuple
+from typing import NamedTuple, Optional, Tuple
 
 from psxgpu.command import ToolError
 from psxgpu.difference import compared
-from psxgpu.players.named import Done, Player, dump_of
-
-DIGITS = 8      # of a word in the output of `play`; other lines are not words
+from psxgpu.errors import counted
+from psxgpu.players.named import Player, dump_of, no_dump
+from psxgpu.players.trial_run import words_of
 
 
 class FirstWord(NamedTuple):
@@ -21,35 +21,31 @@ class Fault:
     """Base of the three faults: whether a capture shows it."""
     mode = 'vram'
 
-    def shows(self, ours: Player, theirs: Player, data: bytes, seconds: Optional[float]) -> bool:
-        """Returns whether the capture `data` shows the fault. A player gets `seconds` for its run."""
+    def shows(self, ours: Player, theirs: Player, data: bytes, seconds: Optional[float], strict: bool = False) -> bool:
+        """Returns whether the capture `data` shows the fault. A player gets `seconds` for its run. Raises ToolError if a
+        player gives no answer and `strict` is true; else the capture then does not show it."""
         raise NotImplementedError
 
 
 class DumpsDiffer(Fault):
-    """The dumps differ by more than a tolerance. A player that gives none makes no difference."""
+    """The dumps differ by more than a tolerance."""
 
     def __init__(self, tolerance: int = 0) -> None:
         self.tolerance = tolerance
 
-    def shows(self, ours: Player, theirs: Player, data: bytes, seconds: Optional[float]) -> bool:
-        one = dump_of(ours.run('vram', data, seconds))
-        other = dump_of(theirs.run('vram', data, seconds)) if one is not None else None
-        if one is None or other is None or one == other:
-            return False
-        if len(one) != len(other):
-            raise ToolError('dumps of %d and %d bytes' % (len(one), len(other)))
-        return not self.tolerance or compared(one, other, self.tolerance).count > 0
-
-
-def read_words(done: Done) -> Optional[List[int]]:
-    """Returns the words that a run of `play` wrote, or None if it failed."""
-    if done.status != 0:
-        return None
-    try:
-        return [int(line, 16) for line in done.out.split(b'\n') if len(line.strip()) == DIGITS]
-    except ValueError:
-        return None
+    def shows(self, ours: Player, theirs: Player, data: bytes, seconds: Optional[float], strict: bool = False) -> bool:
+        dumps = []
+        for player in (ours, theirs):
+            done = player.run('vram', data, seconds)
+            dump = dump_of(done)
+            if dump is None and strict:
+                raise no_dump(player, done)
+            if dump is None:
+                return False
+            dumps.append(dump)
+        if len(dumps[0]) != len(dumps[1]):
+            raise ToolError('dumps of %d and %d bytes' % (len(dumps[0]), len(dumps[1])))
+        return dumps[0] != dumps[1] and (not self.tolerance or compared(dumps[0], dumps[1], self.tolerance).count > 0)
 
 
 class WordsDiffer(Fault):
@@ -59,15 +55,21 @@ class WordsDiffer(Fault):
     def __init__(self) -> None:
         self.bits = 0xFFFFFFFF
 
-    def first(self, ours: Player, theirs: Player, data: bytes, seconds: Optional[float]) -> Optional[FirstWord]:
+    def first(self, ours: Player, theirs: Player, data: bytes, seconds: Optional[float],
+              strict: bool = False) -> Optional[FirstWord]:
         """Returns the first word that differs, or None."""
-        both = [read_words(player.run('play', data, seconds)) for player in (ours, theirs)]
-        if both[0] is None or both[1] is None or len(both[0]) != len(both[1]):
+        try:
+            one, other = (words_of(player, data, seconds) for player in (ours, theirs))
+            if len(one) != len(other):
+                raise ToolError('our player writes %s, the other player %d' % (counted(len(one), 'word'), len(other)))
+        except ToolError:
+            if strict:
+                raise
             return None
-        return next((FirstWord(k, a, b) for k, (a, b) in enumerate(zip(both[0], both[1]), 1) if a != b), None)
+        return next((FirstWord(k, a, b) for k, (a, b) in enumerate(zip(one, other), 1) if a != b), None)
 
-    def shows(self, ours: Player, theirs: Player, data: bytes, seconds: Optional[float]) -> bool:
-        found = self.first(ours, theirs, data, seconds)
+    def shows(self, ours: Player, theirs: Player, data: bytes, seconds: Optional[float], strict: bool = False) -> bool:
+        found = self.first(ours, theirs, data, seconds, strict)
         return found is not None and not (found.ours ^ found.theirs) & ~self.bits
 
 
@@ -77,7 +79,7 @@ class BreaksDown(Fault):
     def __init__(self) -> None:
         self.is_known, self.status = False, None    # type: bool, Optional[int]
 
-    def shows(self, ours: Player, theirs: Player, data: bytes, seconds: Optional[float]) -> bool:
+    def shows(self, ours: Player, theirs: Player, data: bytes, seconds: Optional[float], strict: bool = False) -> bool:
         done = theirs.run('vram', data, seconds)
         return dump_of(done) is None and (not self.is_known or done.status == self.status)
 

@@ -26,15 +26,15 @@ class Prober:
         self.count = 0
 
     def look(self, data: bytes) -> bool:
-        """Returns whether a capture shows the fault."""
-        return self.fault.shows(self.ours, self.theirs, data, self.seconds)
+        """Returns whether a part of the user's capture shows the fault. Raises ToolError if a player gives no answer."""
+        return self.fault.shows(self.ours, self.theirs, data, self.seconds, strict=True)
 
     def probe(self, data: bytes) -> bool:
-        """The same, and the answer is kept."""
+        """Returns whether a candidate shows the fault, and keeps the answer. A player need not play it."""
         key = hashlib.sha1(data).digest()
         if key not in self.known:
             self.count += 1
-            self.known[key] = self.look(data)
+            self.known[key] = self.fault.shows(self.ours, self.theirs, data, self.seconds)
         return self.known[key]
 
     def first(self, candidates: Iterable[T], bytes_of: Callable[[T], bytes]) -> Optional[T]:

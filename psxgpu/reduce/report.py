@@ -1,12 +1,12 @@
 """What is written of a reduced capture: NAME.capture, NAME.log, NAME.py, NAME.png, and at most ten lines."""
 from __future__ import annotations
 
-import os
-from typing import List, NamedTuple, Optional, Sequence, Tuple
+from typing import Iterator, List, NamedTuple, Optional, Sequence, Tuple
 
-from psxgpu.command import write_whole
 from psxgpu.difference import Difference, beside, compared
-from psxgpu.image import Image, write_image
+from psxgpu.errors import ToolError, counted
+from psxgpu.image import Image, png
+from psxgpu.output import Content
 from psxgpu.packets.known import CLASSES
 from psxgpu.players.named import dump_of, ending
 from psxgpu.reduce.faults import BreaksDown, DumpsDiffer, WordsDiffer
@@ -37,11 +37,6 @@ class Reduced(NamedTuple):
         return sum(unit.size for unit in self.units)
 
 
-def counted(count: int, what: str) -> str:
-    """Returns a number with its noun."""
-    return '%d %s%s' % (count, what, '' if count == 1 else 's')
-
-
 def how_it_differs(reducer: Reducer, data: bytes) -> Tuple[List[str], Optional[Tuple[bytes, bytes]]]:
     """Returns the lines that say how both players differ on `data`, and their dumps, if these differ."""
     prober = reducer.prober
@@ -50,12 +45,13 @@ def how_it_differs(reducer: Reducer, data: bytes) -> Tuple[List[str], Optional[T
         return ['their player gives no dump: %s' % ending(done)], None
     if isinstance(prober.fault, WordsDiffer):
         found = prober.fault.first(prober.ours, prober.theirs, data, prober.seconds)
-        return ['word %d: %08x and %08x' % found] if found else [], None
+        return ['word %d: ours %08x, theirs %08x' % found] if found else [], None
     ours, theirs = (dump_of(player.run('vram', data, prober.seconds)) for player in (prober.ours, prober.theirs))
-    if ours is None or theirs is None:
-        return [], None
     tolerance = prober.fault.tolerance if isinstance(prober.fault, DumpsDiffer) else 0
-    return compared(ours, theirs, tolerance).lines(), (ours, theirs)
+    difference = compared(ours, theirs, tolerance) if ours and theirs else None
+    if not ours or not theirs or difference is None or not difference.count:
+        raise ToolError('the smallest capture does not show the difference again: a player writes other bytes each time')
+    return difference.lines(), (ours, theirs)
 
 
 def reduced(reducer: Reducer, name: str, event: int) -> Reduced:
@@ -66,6 +62,11 @@ def reduced(reducer: Reducer, name: str, event: int) -> Reduced:
         name, event, units[-1].name, ' (%s)' % ', '.join(classes) if classes else '')
     differs, dumps = how_it_differs(reducer, data)
     return Reduced(units, data, reducer.is_tall, headline, differs, dumps)
+
+
+def as_text(line: str) -> str:
+    """Returns a text as `from-log` reads it: names of files need not be ASCII, or UTF-8."""
+    return line.encode('ascii', 'backslashreplace').decode()
 
 
 def shortened(text: str) -> str:
@@ -111,19 +112,13 @@ def pictures(dumps: Tuple[bytes, bytes], difference: Difference) -> Image:
     return beside([ours, gap, theirs, gap, what])
 
 
-def write_all(found: Reduced, name: str, notes: Sequence[str]) -> List[str]:
-    """Writes NAME.capture, NAME.log, NAME.py and, if dumps differ, NAME.png. `notes` are lines of the log's head.
-    Returns the paths."""
-    paths = [name + '.capture', name + '.log', name + '.py']
-    head = [*report_lines(found), *notes]
-    write_whole(paths[0], found.data)
-    log = (''.join('# %s\n' % line for line in head)
-           + ''.join(line + '\n' for line in log_lines(found.units, found.is_tall)))
-    write_whole(paths[1], log.encode(), is_text=True)
-    base = os.path.basename(name) + '.capture'
+def files_of(found: Reduced, name: str, notes: Sequence[str]) -> Iterator[Content]:
+    """Yields NAME.capture, NAME.log, NAME.py and, if dumps differ, NAME.png. `notes` are lines of the log's head."""
+    yield Content(name + '.capture', found.data)
+    log = [*(as_text('# ' + line) for line in (*report_lines(found), *notes)), *log_lines(found.units, found.is_tall)]
+    yield Content(name + '.log', ''.join(line + '\n' for line in log).encode(), is_text=True)
     about = '\n'.join(['%s.' % found.headline, '', *found.differs, *notes])
-    write_whole(paths[2], script(found.units, found.is_tall, base, about).encode(), is_text=True)
+    text = script(found.units, found.is_tall, name.rpartition('/')[2] + '.capture', as_text(about))
+    yield Content(name + '.py', text.encode(), is_text=True)
     if found.dumps:
-        paths.append(name + '.png')
-        write_image(paths[-1], pictures(found.dumps, compared(*found.dumps)))
-    return paths
+        yield Content(name + '.png', png(pictures(found.dumps, compared(*found.dumps))))

@@ -6,6 +6,7 @@ import os
 from typing import Callable, Iterator, List, NamedTuple, Optional
 
 from psxgpu.command import ToolError
+from psxgpu.errors import counted
 from psxgpu.players.bisection import bisect, build
 from psxgpu.players import player
 from psxgpu.players.beginning import FIRST_LOOK, beginning
@@ -25,7 +26,7 @@ def step_of_event(steps: Steps, name: str, event: int) -> int:
     for k in range(1, steps.count + 1):
         if steps.events[k] >= event:
             return k
-    raise ToolError('%s: it has %d events' % (name, steps.events[-1]))
+    raise ToolError('%s: it has %s' % (name, counted(steps.events[-1], 'event')))
 
 
 class Search:
@@ -61,5 +62,6 @@ class Search:
     def step(self, steps: Steps, name: str) -> Optional[int]:
         """Returns the first step after which the fault is there, or that of the given event."""
         if self.event:
-            return step_of_event(steps, name, self.event)
+            k = step_of_event(steps, name, self.event)
+            return k if self.prober.look(steps.prefixes.data(k)) else None
         return bisect(steps.count, lambda n: self.prober.look(steps.prefixes.data(n)))

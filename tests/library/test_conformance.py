@@ -17,4 +17,4 @@ class Suite(unittest.TestCase):
 
     def test_the_program_is_played_by_the_library(self):
         """`psxgpu conform psxgpu_tool` starts no process where the library is."""
-        self.assertIsInstance(player_of('psxgpu_tool', appends=True), LibraryPlayer)
+        self.assertIsInstance(player_of('psxgpu_tool'), LibraryPlayer)

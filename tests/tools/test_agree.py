@@ -17,10 +17,10 @@ class Agreement(support.InFolder):
 
     def test_dumps(self):
         """One player writes how long its capture is, one the double, and one nothing if it is long."""
-        dump = "{ printf '%06d' $n; cat /dev/zero; } | head -c 1048576\n"
-        zeros = self.player('zeros', 'n=$(wc -c); ' + dump)
-        one = self.player('one', 'n=$(($(wc -c) * 2)); ' + dump)
-        nothing = self.player('nothing', 'n=$(wc -c); [ $n -gt 4000 ] || ' + dump)
+        dump = "{ [ $n = 12 ] || printf '%06d' $((n * $k)); cat /dev/zero; } | head -c 1048576\n"
+        zeros = self.player('zeros', 'k=1; n=$(wc -c); ' + dump)
+        one = self.player('one', 'k=2; n=$(wc -c); ' + dump)
+        nothing = self.player('nothing', 'k=1; n=$(wc -c); [ $n -gt 4000 ] || ' + dump)
         same = self.player('same', 'cat > /dev/null; head -c 1048576 /dev/zero\n')
         self.assertEqual(self.agree(zeros, same, '1', 'fills')[2], 'psxgpu agree: %s: the other player gives the same '
                          'dump whatever it reads\n' % same)

@@ -100,19 +100,19 @@ class Audits(unittest.TestCase):
         status, lines = self.audit(self.fills(), self.brighter)
         self.assertEqual(status, 1)
         self.assertEqual(lines, ['| fill | 2 | 0 | 192 | 192 | 64 |', '| load | 1 | 1 | 4 | 0 | 0 |',
-                                 'fill: event 3 020000f8: 64 cells, first (16, 8): 001f and 0000'])
+                                 'fill: event 3 020000f8: 64 cells, first (16, 8): ours 001f, theirs 0000'])
 
     def test_differences_do_not_add_up(self):
         """A row too few in each: the second fill's last row is another one than the first's."""
         _, lines = self.audit(self.fills(), self.shorter)
         self.assertEqual(lines[0], '| fill | 2 | 0 | 192 | 48 | 48 |')
-        self.assertEqual(lines[2], 'fill: event 3 020000f8: 16 cells, first (16, 11): 001f and 0000')
+        self.assertEqual(lines[2], 'fill: event 3 020000f8: 16 cells, first (16, 11): ours 001f, theirs 0000')
 
     def test_reduced(self):
         """The smallest capture of the class that differs, and the page. A row too few is there in one of 16 cells."""
         folder = os.path.join(self.folder, 'small')
         status, lines = self.audit(self.fills(), self.shorter, '--reduce', folder)
-        self.assertEqual((status, lines[-1]), (1, '1 classes reduced: %s' % os.path.join(folder, 'index.html')))
+        self.assertEqual((status, lines[-1]), (1, '1 class reduced: %s' % os.path.join(folder, 'index.html')))
         self.assertEqual(sorted(os.listdir(folder)), ['fill.capture', 'fill.log', 'fill.png', 'fill.py', 'index.html'])
         with open(os.path.join(folder, 'fill.capture'), 'rb') as file:
             (kind, _, words), = c.records(file.read())[1]
@@ -132,7 +132,7 @@ class Audits(unittest.TestCase):
         self.assertEqual(lines[0], '| fill | 1 | 0 | 128 | 128 | 0 |')
         _, lines = self.audit(self.fills(), self.brighter, '--last', '3')
         self.assertEqual(lines, ['| fill | 1 | 0 | 64 | 64 | 64 |',
-                                 'fill: event 3 020000f8: 64 cells, first (16, 8): 001f and 0000'])
+                                 'fill: event 3 020000f8: 64 cells, first (16, 8): ours 001f, theirs 0000'])
 
     def refusal(self, capture, theirs='right', path=None):
         errors = io.StringIO()
@@ -154,13 +154,13 @@ class Audits(unittest.TestCase):
     def test_foreign_player(self):
         """What is not a list of packets is refused in one line."""
         self.right = self.program('talks', '#!/bin/sh\ncat > /dev/null; echo one two\n')
-        self.assertIn('talks list: not a list of packets', self.refusal(self.fills(), 'talks'))
+        self.assertIn('talks: our player writes 0 words of eight digits', self.refusal(self.fills(), 'talks'))
 
     def test_refusals(self):
         self.assertIn('not flat', self.refusal(c.Capture(2).ram(0, 1)))
         self.assertIn('tall profile', self.refusal(c.Capture(3).gp0(1)))
         self.assertIn('No such file', self.refusal(self.fills(), 'nobody'))
-        self.assertIn('fewer words', self.refusal(self.fills(), 'silent'))
+        self.assertIn('writes 0 words', self.refusal(self.fills(), 'silent'))
         self.assertIn('status 3', self.refusal(self.fills(), 'failing'))
         self.assertIn('No such file', self.refusal(None, path='/nowhere/a.capture'))
         path = os.path.join(self.folder, 'no.capture')

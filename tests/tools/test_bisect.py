@@ -42,7 +42,7 @@ class Bisected(support.InFolder):
         self.assertEqual((status, err), (1, ''))
         self.assertEqual(lines, ['they differ from here on, packet 3 of 4:', '14 fill 020000f8 64 0 79 0',
                                  '    corner (64, 0), size 16 by 1', '    colour 248 0 0',
-                                 'first differing cell: (64, 0): 001f and 0000', 'cells that differ: 16',
+                                 'first differing cell: (64, 0): ours 001f, theirs 0000', 'cells that differ: 16',
                                  'their box: 64 0 79 0', 'by steps: 16 to 31: 16'])
 
     def test_dma_is_flattened(self):
@@ -60,7 +60,7 @@ class Bisected(support.InFolder):
 
     def test_no_difference(self):
         capture = c.Capture().gp0(c.fill(0, 0, 0, 16, 1))
-        self.assertEqual(self.bisect(capture), (0, ['no difference after 1 packets'], ''))
+        self.assertEqual(self.bisect(capture), (0, ['no difference after 1 packet'], ''))
 
     def test_tolerance(self):
         capture = c.Capture().gp0(c.fill(0x10, 0, 0, 16, 1), c.fill(0x20, 32, 0, 16, 1))
@@ -69,9 +69,9 @@ class Bisected(support.InFolder):
         self.assertEqual(self.bisect(capture, '--tolerance', '4')[0], 0)
 
     def test_no_dump(self):
-        status, lines, err = self.bisect(c.Capture().stat(), players=['cat > /dev/null', 'cat > /dev/null'])
+        status, lines, err = self.bisect(c.Capture().stat(), players=['cat > /dev/null #', 'cat > /dev/null #'])
         self.assertEqual((status, lines), (2, []))
-        self.assertEqual(err, 'psxgpu bisect: cat > /dev/null: no dump (status 0, 0 bytes)\n')
+        self.assertEqual(err, 'psxgpu bisect: cat > /dev/null #: no dump (status 0, 0 bytes)\n')
 
     def test_ignored(self):
         """A player that draws no lines, and one rectangle less. The line's cells come by a load."""

@@ -1,4 +1,5 @@
 """Reports on captures."""
+import json
 
 from tests import support
 from psxgpu import capture as c
@@ -37,7 +38,7 @@ class Checked(support.InFolder):
 
     def test_transfers(self):
         status, lines = self.report(c.Capture(2).begin(0x1000, 0x00020004, c.BLOCKS_IN).turn().bytes())
-        self.assertEqual((status, lines[4]), (1, 'not finished: a transfer of DMA: 4 words are left at 001010'))
+        self.assertEqual((status, lines[4]), (1, 'not finished: a transfer of DMA: 4 words left at 001010'))
         status, lines = self.report(c.Capture(2).begin(0x1000, 0, c.LIST).bytes())
         self.assertEqual((status, lines[4]), (1, 'not finished: a linked list of DMA: the next node is at 001000'))
 
@@ -57,3 +58,15 @@ class Checked(support.InFolder):
         self.assertEqual(self.report(capture.bytes())[1][-1], 'slim leaves out: 3 of 8 events')
         self.assertEqual(self.report(support.example('turns'))[1][-1],
                          'slim leaves out: 0 of 20 events of the flat capture')
+
+    def test_several(self):
+        """Each has its name; an error of one does not end the others."""
+        self.write('a', c.Capture().gp0(0).bytes())
+        self.write('b', c.Capture().gp0(0x20000000).bytes())
+        done = support.run_tool('check', 'a', 'none', 'b', cwd=self.folder)
+        self.assertEqual((done.returncode, done.stderr), (2, 'psxgpu check: none: No such file or directory\n'))
+        self.assertEqual([line for line in done.stdout.splitlines() if line.endswith(':')], ['a:', 'b:'])
+        done = support.run_tool('check', 'a', 'b', '--json', cwd=self.folder)
+        found = json.loads(done.stdout)
+        self.assertEqual((done.returncode, [it['capture'] for it in found]), (1, ['a', 'b']))
+        self.assertEqual([bool(it['unfinished']) for it in found], [False, True])

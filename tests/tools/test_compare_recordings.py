@@ -70,8 +70,8 @@ class Recordings(support.InFolder):
     def test_first_frame(self):
         status, lines = self.compare(film(1, 2, 3), film(1, 7, 3, reads=1), 'd.png', '--side', 's.png')
         self.assertEqual((status, lines[0]), (1, 'first differing frame: 2, event 8 and event 10'))
-        self.assertRegex(lines[1], '^2 by 1 [0-9a-f]{64} and 2 by 1 [0-9a-f]{64}$')
-        self.assertEqual(lines[2:], ['first differing cell: (0, 0): 020202 and 070707', 'cells that differ: 2',
+        self.assertRegex(lines[1], '^ours 2 by 1 [0-9a-f]{64}, theirs 2 by 1 [0-9a-f]{64}$')
+        self.assertEqual(lines[2:], ['first differing cell: (0, 0): ours 020202, theirs 070707', 'cells that differ: 2',
                                      'their box: 0 0 1 0', 'by steps: 4 to 7: 2'])
         self.assertEqual(read_png(self.read('d.png')).pixels, b'\xff\x20\x20' * 2)
         self.assertEqual(read_png(self.read('s.png')).pixels, b'\2' * 6 + b'\7' * 6 + b'\xff\x20\x20' * 2)
@@ -81,8 +81,8 @@ class Recordings(support.InFolder):
         self.assertEqual(self.compare(*pair, '--marks')[1][0], 'first differing frame: 2, event 8 and event 8')
         status, lines = self.compare(*pair)
         self.assertEqual((status, lines[0]), (1, 'equal: 0 frames'))
-        self.assertRegex(lines[1], '^video memory after the end differs: [0-9a-f]{64} and [0-9a-f]{64}$')
-        self.assertEqual(lines[2], 'first differing cell: (1, 0): 0002 and 0003')
+        self.assertRegex(lines[1], '^video memory after the end differs: ours [0-9a-f]{64}, theirs [0-9a-f]{64}$')
+        self.assertEqual(lines[2], 'first differing cell: (1, 0): ours 0002, theirs 0003')
 
     def test_other_sizes(self):
         status, lines = self.compare(film(1), film(1).gp0(c.fill(1, 0, 0, 16, 1)).gp1(5 << 24), 'd.png')
@@ -97,10 +97,11 @@ class Recordings(support.InFolder):
     def test_refused(self):
         """A difference before the refusal is found; else the refusal is the error."""
         self.assertEqual(self.compare(film(1, 99), film(1, 2)), (
-            2, 'psxgpu compare: ours: small: no 99 at event 7; 1 frames before that are equal\n'))
+            2, 'psxgpu compare: ours: small: no 99 at event 7; equal before that: 1 frame\n'))
         self.assertEqual(self.compare(film(1, 99), film(2, 2))[0], 1)
 
     def test_other_kinds(self):
         self.assertEqual(self.compare(film(1), bytes(2048)), (
-            2, 'psxgpu compare: ours and theirs: one is a recording\n'))
+            2, 'psxgpu compare: ours is a recording, theirs is not: compare it with a dump of the recording: '
+               'psxgpu_tool vram < ours > vram.bin\n'))
         self.assertEqual(self.compare(film(1), film(1), '--tolerance', '3')[0], 2)

@@ -56,8 +56,8 @@ class Lacks(unittest.TestCase):
         for mode, done, text in (('vram', Done(1, b'', b'usage'), 'status 1, usage'),
                                  ('vram', Done(0, b'12', b''), '2 bytes, expected 1048576'),
                                  ('play', Done(0, b'', b''), '0 words for one read of the status'),
-                                 ('play', Done(0, b'word\n', b''), 'play: a line that is not a word'),
-                                 ('shot', Done(0, b'P5 1 1 255 ', b''), 'shot: not a picture'),
+                                 ('play', Done(0, b'word\n', b''), "play: 'word' is not a word"),
+                                 ('shot', Done(0, b'P5 1 1 255 ', b''), 'shot: a picture of the kind P5, and not P6'),
                                  ('shot', Done(None, b'', b''), 'no end in time')):
             self.assertEqual(lack(mode, done, False), text)
         self.assertEqual(set(lacks(Model(), 20).values()), {''})

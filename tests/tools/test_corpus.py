@@ -51,7 +51,7 @@ class Differs(Corpus):
     frame 2 of 3 (event 10), after event 5
     video memory after the end
     first packet: 8 fill 0200003e -
-    first differing cell: (16, 8): 0000 and 003e
+    first differing cell: (16, 8): the player 0000, the reference 003e
     cells that differ: 16
     their box: 16 8 31 8
     by steps: 16 to 31: 16
@@ -59,7 +59,7 @@ different deep/b.capture
     frame 2 of 3 (event 10), after event 5
     video memory after the end
     first packet: 8 fill 0200003e -
-    first differing cell: (16, 8): 0000 and 003e
+    first differing cell: (16, 8): the player 0000, the reference 003e
     cells that differ: 16
     their box: 16 8 31 8
     by steps: 16 to 31: 16
@@ -104,7 +104,7 @@ missing deep/b.capture
     the picture is the same there, the words read are not
     words read, of 4 lines
     after event 10 video memory is the same
-    first differing word: line 2: 00000007 and 00000002
+    first differing word: line 2: the player 00000007, the reference 00000002
 1 capture: 0 same, 1 different
 ''', '', 'check', 'in', '--golden', 'golden', '--player', './mute', '--reference', './small')
 

@@ -39,7 +39,7 @@ class Bad(Corpus):
         self.expect(2, '', 'the player plays no capture: a.capture: fails 1 without a message\n$',
                     'check', 'in', '--golden', 'golden', '--player', 'false')
         self.assertEqual(self.text('golden'), golden)
-        self.assertEqual(os.listdir(self.path('corpus-report')), [])
+        self.assertEqual(os.listdir(self.path('corpus-report')), ['.psxgpu-output'])
 
     def test_golden_files(self):
         self.two()
@@ -86,5 +86,5 @@ class Bad(Corpus):
             time.sleep(0.05)
         child.send_signal(signal.SIGINT)
         out, err = child.communicate(timeout=90)
-        self.assertEqual((child.returncode, out), (2, ''))
-        self.assertRegex(err, 'interrupted; 1 of 2 captures are kept in golden.part: run it again to go on')
+        self.assertEqual((child.returncode, out), (130, ''))
+        self.assertRegex(err, 'interrupted; 1 of 2 captures are kept in golden.part: run it again to continue')

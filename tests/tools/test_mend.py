@@ -20,11 +20,11 @@ class Mended(support.InFolder):
         every = list(c.events(c.records(whole)[1]))
         for n in range(8, len(whole)):
             with self.subTest(n):
-                size, rest = whole_of(io.BytesIO(whole[:n]), 'it')
+                size, rest, _ = whole_of(io.BytesIO(whole[:n]), 'it')
                 found = list(c.events(c.records(whole[:size] + rest)[1]))
                 self.assertEqual(found, every[:len(found)])
                 self.assertEqual(len(found), self.events_in(whole[:n]))
-        self.assertEqual(whole_of(io.BytesIO(whole + b'more'), 'it'), (len(whole), b''))
+        self.assertEqual(whole_of(io.BytesIO(whole + b'more'), 'it'), (len(whole), b'', ''))
 
     @staticmethod
     def events_in(data):
@@ -77,3 +77,23 @@ class Mended(support.InFolder):
             self.assertEqual((done.returncode, done.stderr.count('\n')), (2, 1), done)
             self.assertIn('psxgpu mend: ' + said, done.stderr)
             self.assertEqual({name: self.read(name) for name in os.listdir(self.folder)}, before)
+
+    def test_damaged(self):
+        """The events before what is not a record are kept, in another file."""
+        whole = c.Capture().gp0(1, 2).stat().read(2).bytes()
+        good = c.Capture().gp0(1, 2).stat().bytes()
+        for number, bad in enumerate((struct.pack('<I', 0x63000000), struct.pack('<I', 0x07000001),
+                                      struct.pack('<II', 0x01000001, 2), struct.pack('<I', 1))):
+            data = good[:-4] + bad + whole[len(good) - 4:]
+            self.write('bad', data)
+            with self.subTest(number):
+                done = self.mend('bad')
+                self.assertEqual((done.returncode, self.read('bad'), done.stderr.count('\n')), (2, data, 1))
+                self.assertIn('begins no record of version 1: name an output for what is before it', done.stderr)
+                done = self.mend('bad', 'out')
+                self.assertEqual((done.returncode, self.read('out')), (0, good))
+                self.assertEqual(done.stdout, 'made whole: all before byte 24: %08x begins no record of version 1\n'
+                                 % struct.unpack('<I', bad[:4]))
+                done = support.run_tool('first', '9', 'bad', 'out', cwd=self.folder)
+                self.assertEqual((done.returncode, self.read('out')), (2, good))
+                self.assertRegex(done.stderr, '^psxgpu first: bad: byte \d+: .*; the 3 events before it are kept\n$')

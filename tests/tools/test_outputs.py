@@ -99,7 +99,7 @@ class Outputs(support.InFolder):
     def test_one_picture_is_not_the_other(self):
         self.write('in', DUMP)
         done = support.run_tool('compare', 'in', 'in', 'out', '--side', './out', cwd=self.folder)
-        self.expect_error(done, './out: the name of both pictures')
+        self.expect_error(done, './out: named for two outputs')
         self.expect_alone('in')
 
     def test_join_appends(self):
@@ -170,7 +170,7 @@ class Outputs(support.InFolder):
                         self.wait_until_it_reads(child)
                     child.send_signal(number)
                     _, said = child.communicate()
-                    self.assertEqual((child.returncode, said), (2, b'psxgpu %s: interrupted\n' % name.encode()))
+                    self.assertEqual((child.returncode, said), (128 + number, b'psxgpu %s: interrupted\n' % name.encode()))
                     self.assertEqual(self.read('out'), b'old')
                     self.expect_alone('out')
 
@@ -194,7 +194,7 @@ class Corpus(support.InFolder):
             done = support.run_tool('corpus', 'split', 'parts/' + name, '--parts', '2', '--into', 'parts', '--player',
                                     'cat', cwd=self.folder)
             self.assertEqual(done.returncode, 2)
-            self.assertIn('parts/%s is also the input: name another' % name, done.stderr)
+            self.assertIn('parts: the folder contains the input parts/%s: name another' % name, done.stderr)
             self.assertEqual(os.listdir(self.path('parts')), [name])
             self.assertEqual(self.read('parts/' + name), before)
             os.remove(self.path('parts/' + name))

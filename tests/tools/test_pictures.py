@@ -99,7 +99,7 @@ class Compared(support.InFolder):
         self.assertEqual(compared(bytes(4096), bytes(4096)).lines(), ['equal'])
         theirs = self.changed([(7, 2, 0x7FFF), (3, 5, 1), (9, 3, 0x8000)])
         difference = compared(bytes(2048 * 8), theirs)
-        self.assertEqual(difference.lines(), ['first differing cell: (7, 2): 0000 and 7fff', 'cells that differ: 3',
+        self.assertEqual(difference.lines(), ['first differing cell: (7, 2): ours 0000, theirs 7fff', 'cells that differ: 3',
                                               'their box: 3 2 9 5', 'by steps: bit 15: 1, 1: 1, 16 to 31: 1'])
         image = difference.image()
         self.assertEqual((image.width, image.height, image.row(2)[21:24]), (1024, 8, b'\xff\x20\x20'))
@@ -113,7 +113,7 @@ class Compared(support.InFolder):
 
     def test_pictures(self):
         grids = [Grid(data, True) for data in (b'P6\n2 1\n255\nabcdef', png(Image(2, 1, b'abcdeh')))]
-        self.assertEqual(Difference(*grids).lines(), ['first differing cell: (1, 0): 646566 and 646568',
+        self.assertEqual(Difference(*grids).lines(), ['first differing cell: (1, 0): ours 646566, theirs 646568',
                                                       'cells that differ: 1', 'their box: 1 0 1 0', 'by steps: 2: 1'])
 
     def status(self, ours, theirs, *words):
@@ -185,8 +185,8 @@ class OfCaptures(support.InFolder):
         self.write('part', subprocess.run([support.PLAYER, 'cut', '6', self.path('in')], capture_output=True).stdout)
         self.write('none', c.Capture().gp1(c.vertical_range(1, 1)).bytes())
         self.write('dump', bytes(2048))
-        for words, text in ((['in', '-o', 'x', '--at', '12'], 'in: it has 11 events'), (['in'], 'name one picture'),
-                            (['in', 'x', '-o', 'y'], 'name one picture'), (['in', 'in'], 'in is also the input'),
+        for words, text in ((['in', '-o', 'x', '--at', '12'], 'in: it has 11 events'), (['in'], 'name the picture'),
+                            (['in', 'x', '-o', 'y'], 'two outputs are named'), (['in', 'in'], 'in is also the input'),
                             (['part', 'x', '--at', '5'], 'part: it begins after event 6'),
                             (['cut', 'x'], 'cut: psxgpu: truncated at'), (['none', 'x'], 'none: psxgpu: no-picture'),
                             (['dump', 'x', '--at', '1'], 'dump: not a capture'),

@@ -3,10 +3,12 @@ from __future__ import annotations
 
 import os
 import unittest
+from unittest import mock
 
 from psxgpu.command import ToolError
 from psxgpu.players.named import CommandPlayer, arguments_of, dump_of, expect_dump, player_of, with_mode
-from psxgpu.players.trial_run import trial_captures, try_commands
+from psxgpu.players import player as program
+from psxgpu.players.trial_run import OURS, trial_captures, try_commands, try_player, try_words
 from tests import support
 from tests.tools.small_player import SmallPlayer
 
@@ -20,11 +22,11 @@ n=$(wc -c); { printf '%06d' $n; cat /dev/zero; } | head -c 1048576
 
 class Names(unittest.TestCase):
     def test_mode(self) -> None:
-        for command, appends, want in (
-                ('psxgpu_tool vram', False, 'psxgpu_tool play'), ('psxgpu_tool', True, 'psxgpu_tool play'),
-                ('psxgpu_tool', False, 'psxgpu_tool'), ('a vram | b vram -x', True, 'a vram | b play -x'),
-                ('./vram-player vram', True, './vram-player play')):
-            self.assertEqual(with_mode(command, 'play', appends), want)
+        for command, want in (
+                ('psxgpu_tool vram', 'psxgpu_tool play'), ('psxgpu_tool', 'psxgpu_tool play'),
+                ('a vram | b vram -x', 'a vram | b play -x'), ('./vram-player vram', './vram-player play'),
+                ('./vram-player', './vram-player play'), ('player # vram', 'player # play')):
+            self.assertEqual(with_mode(command, 'play'), want)
 
     def test_arguments(self) -> None:
         """A command that needs no shell gets none."""
@@ -42,32 +44,58 @@ class Wrong(support.InFolder):
         return path
 
     def test_a_path_with_a_space(self) -> None:
-        done = player_of(self.player(), appends=True).run('vram', EMPTY)
+        done = player_of(self.player()).run('vram', EMPTY)
         self.assertEqual((dump_of(done) or b'')[:6], b'000012')
 
-    def test_vram_is_meant(self) -> None:
-        path = self.player()
-        with self.assertRaises(ToolError) as caught:
-            expect_dump(CommandPlayer("'%s'" % path), EMPTY)
-        self.assertEqual(str(caught.exception), "'%s': no dump (status 1, usage): is %r meant?"
-                         % (path, "'%s' vram" % path))
-
     def test_no_dump(self) -> None:
-        for command, want in (('cat', 'cat: no dump (status 0, 12 bytes)'),
-                              ('kill -9 $$', 'kill -9 $$: no dump (ended by SIGKILL)'),
-                              ('sleep 9; cat', 'sleep 9; cat: no dump (no end in time)'),
+        for command, want in (('cat #', 'cat #: no dump (status 0, 12 bytes)'),
+                              ('kill -9 $$ #', 'kill -9 $$ #: no dump (ended by SIGKILL)'),
+                              ('sleep 9; cat #', 'sleep 9; cat #: no dump (no end in time)'),
+                              ('echo one >&2; echo two >&2; exit 3 #', 'echo one >&2; echo two >&2; exit 3 #: no dump '
+                               '(status 3, two)'),
+                              ('false # -', 'false # -: no dump (status 1, 0 bytes): a player reads the capture on '
+                               'standard input, as from < FILE'),
                               ('nobody vram', 'nobody: No such file or directory')):
             with self.assertRaises(ToolError) as caught:
                 expect_dump(CommandPlayer(command), EMPTY, 1)
             self.assertEqual(str(caught.exception), want)
 
     def test_the_same_dump(self) -> None:
-        zeros = CommandPlayer('cat > /dev/null; head -c 1048576 /dev/zero')
+        zeros = CommandPlayer('cat > /dev/null; head -c 1048576 /dev/zero #')
         with self.assertRaisesRegex(ToolError, 'the other player gives the same dump whatever it reads'):
             try_commands(SmallPlayer(), zeros)
         with self.assertRaisesRegex(ToolError, 'our player gives the same dump whatever it reads'):
             try_commands(zeros, SmallPlayer())
         try_commands(SmallPlayer(), SmallPlayer('blend'))
-        tall = CommandPlayer('n=$(wc -c); { printf %06d $n; cat /dev/zero; } | head -c 2097152')
-        with self.assertRaisesRegex(ToolError, 'dumps of 1048576 and 2097152 bytes'):
-            try_commands(SmallPlayer(), tall)
+
+    def test_what_is_asked(self) -> None:
+        """A whole dump, zeros at the beginning, the same bytes each time."""
+        for command, want in (('cat > /dev/null; head -c 2097152 /dev/zero #', 'writes a dump of 2097152 bytes, not of 1048576'),
+                              ('cat > /dev/null; head -c 2048 /dev/zero #', 'writes a dump of 2048 bytes, not of 1048576'),
+                              ('cat > /dev/null; { head -c 4 /dev/zero; printf "\\377\\177"; cat /dev/zero; } | '
+                               'head -c 1048576 #', r'starts with other cells than 0: \(2, 0\) is 7fff')):
+            with self.subTest(command), self.assertRaisesRegex(ToolError, 'the other player ' + want):
+                try_commands(SmallPlayer(), CommandPlayer(command))
+
+    def test_each_time_other_bytes(self) -> None:
+        moody = CommandPlayer('n=$(wc -c); { [ $n = 12 ] || printf %9d $$; cat /dev/zero; } | head -c 1048576 #')
+        with self.assertRaisesRegex(ToolError, 'the player writes other bytes each time, for the same capture'):
+            try_player(moody)
+
+    def test_words(self) -> None:
+        try_words(SmallPlayer(), OURS)
+        for command, want in (('echo 7fff7fff; echo 00000000 #', 'starts with other cells than 0: .0, 0. is 7fff'),
+                              ('echo status #', 'writes 0 words of eight digits'), ('false', 'no words .status 1, 0 bytes'),
+                              ('echo 00000000; printf "%08d\\n" $$ #', 'writes other bytes each time')):
+            with self.subTest(command), self.assertRaisesRegex(ToolError, want):
+                try_words(CommandPlayer(command), OURS)
+
+    def test_a_program_that_is_named(self) -> None:
+        """It is not replaced by another one."""
+        with mock.patch.dict(os.environ, PLAYER='/nonexistent'), self.assertRaisesRegex(
+                ToolError, '^PLAYER=/nonexistent: not a program$'):
+            program.find()
+        with self.assertRaisesRegex(ToolError, '^/nonexistent: not a program$'):
+            program.find('/nonexistent')
+
+

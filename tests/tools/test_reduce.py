@@ -106,7 +106,7 @@ class Faults(Reducing):
         found = self.reduce(capture, 'padding', WordsDiffer())
         self.assertEqual([unit.name for unit in found.units], ['store', 'reads'], report_lines(found))
         self.assertEqual(self.words(found)[1:], [0, 0x00010001])
-        self.assertEqual(found.differs, ['word 1: 00000000 and ffff0000'])
+        self.assertEqual(found.differs, ['word 1: ours 00000000, theirs ffff0000'])
 
     def test_status(self) -> None:
         """A status bit: the setting that sets it and the read of the status."""

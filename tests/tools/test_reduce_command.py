@@ -8,7 +8,8 @@ from typing import List, Tuple
 
 from tests import support
 from psxgpu import capture as c
-from psxgpu.reduce.report import Reduced, report_lines, write_all
+from psxgpu.output import write_several
+from psxgpu.reduce.report import Reduced, files_of, report_lines
 from psxgpu.stream import GP0, Stream
 from tests.tools.test_reduce import Reducing, scene, sprite
 
@@ -17,7 +18,7 @@ class Written(Reducing):
     def written(self) -> Reduced:
         capture = scene().gp0(sprite(40, (0, 300))).gp0(c.load(0, 300, 16, 1, range(900, 916)))
         found = self.reduce(capture.gp0(sprite(80, (0, 300))), 'cache')
-        write_all(found, self.path('small'), ['ours: a', 'theirs: b'])
+        write_several(files_of(found, self.path('small'), ['ours: a', 'theirs: b']))
         return found
 
     def test_log_makes_the_capture(self) -> None:

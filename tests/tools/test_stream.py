@@ -77,4 +77,4 @@ class Joined(support.InFolder):
 
     def test_too_few_events(self):
         done = support.run_tool('first', '20', self.write('one', c.Capture().stat().bytes()), self.path('out'))
-        self.assertEqual((done.returncode, done.stderr), (2, 'psxgpu first: %s: it has 1 events\n' % self.path('one')))
+        self.assertEqual((done.returncode, done.stderr), (2, 'psxgpu first: %s: it has 1 event\n' % self.path('one')))

@@ -1,4 +1,4 @@
-"""Outputs: a file appears under its name only when it is whole.
+"""Files that are written: each appears under its name only when it is whole.
 
 `writing` opens a file beside the target and renames it at the end. A run that fails or is interrupted leaves the old
 file as it was. A device, a pipe and `-` (standard output) cannot be replaced: they are written straight.
@@ -10,10 +10,11 @@ import os
 import re
 import stat
 import sys
-from typing import BinaryIO, Iterable, Iterator, Optional, Tuple, cast
+from typing import BinaryIO, Iterable, Iterator, NamedTuple, Optional, Tuple, cast
 
 from psxgpu.errors import ToolError, named
 
+BINARY = 'the output is binary: redirect it to a file or a program, as in > FILE'
 STREAMS = {'-': 1, '/dev/stdout': 1, '/dev/stderr': 2}
 
 
@@ -60,7 +61,7 @@ def straight(descriptor: int, title: str, is_text: bool) -> Iterator[BinaryIO]:
     """Writes to a device, a pipe or a stream, and closes `descriptor`."""
     with Written(descriptor, title) as raw:
         if raw.isatty() and not is_text:
-            raise ToolError('the output is binary: redirect it to a file or a program, as in > FILE')
+            raise ToolError(BINARY)
         with io.BufferedWriter(raw) as file:
             yield cast(BinaryIO, file)
 
@@ -166,3 +167,41 @@ def write_whole(path: str, data: bytes, inputs: Iterable[str] = (), is_text: boo
     """Writes a file at once, as `writing` does."""
     with writing(path, inputs, is_text) as file:
         file.write(data)
+
+
+class Content(NamedTuple):
+    """A file to write: its path, its bytes, and whether these are text."""
+    path: str
+    data: bytes
+    is_text: bool = False
+
+
+def write_several(contents: Iterable[Content], inputs: Iterable[str] = ()) -> None:
+    """Writes several files. None gets its name before all are written."""
+    inputs = list(inputs)
+    with contextlib.ExitStack() as stack:
+        for path, data, is_text in contents:
+            file = stack.enter_context(writing(path, inputs, is_text))
+            file.write(data)
+            file.flush()
+
+
+@contextlib.contextmanager
+def appending(path: str) -> Iterator[BinaryIO]:
+    """The end of a file that this package wrote, to add bytes to."""
+    try:
+        with open(path, 'ab') as file:
+            yield file
+    except OSError as error:
+        named(error, path)
+        raise
+
+
+def remove(path: str) -> None:
+    """Removes a file that this package wrote."""
+    os.remove(path)
+
+
+def silence(descriptor: int) -> None:
+    """Lets what is written to a descriptor go nowhere."""
+    os.dup2(os.open(os.devnull, os.O_WRONLY), descriptor)
