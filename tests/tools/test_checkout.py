@@ -2,7 +2,6 @@
 import os
 import subprocess
 import sys
-import unittest
 
 from tests import support
 import psxgpu

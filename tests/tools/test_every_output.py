@@ -5,7 +5,6 @@ import contextlib
 import io
 import os
 import shutil
-import unittest
 
 from psxgpu import capture as c
 from psxgpu.__main__ import TOOLS, module_of

@@ -6,7 +6,6 @@ import struct
 import subprocess
 import sys
 import tempfile
-import unittest
 
 from tests import support
 
