@@ -1,7 +1,7 @@
 """Runs the tools of this project: psxgpu NAME .. (in a checkout: bin/psxgpu NAME ..).
 
-`psxgpu NAME --help` or `psxgpu help NAME` explains the arguments of a tool, `psxgpu help NAME --OPTION` lists the values
-of an option that has some, `psxgpu --version` prints the version.
+`psxgpu NAME --help` or `psxgpu help NAME` explains the arguments of a tool, `psxgpu help NAME --OPTION` lists the
+values of an option that has some, `psxgpu --version` prints the version.
 Status: 0 equal, or done; 1 different, or something to look at; 2 an error, with one line on standard error.
 """
 import os

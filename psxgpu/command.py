@@ -12,7 +12,8 @@ import os
 import re
 import sys
 from types import ModuleType
-from typing import IO, Any, BinaryIO, Callable, ContextManager, Iterator, NoReturn, Optional, Protocol, Sequence, Tuple, Union, cast
+from typing import (IO, Any, BinaryIO, Callable, ContextManager, Iterator, NoReturn, Optional, Protocol, Sequence,
+                    Tuple, Union, cast)
 
 from psxgpu import progress
 from psxgpu.output import check, roles_in, silence, takes_standard_output, write_whole, writing
@@ -103,8 +104,8 @@ def status_of(module: Command, name: str, words: Optional[Sequence[str]]) -> Opt
 
 
 def as_it_may_be(error: UnicodeError) -> Tuple[Union[str, bytes], int]:
-    """Handles what standard output cannot show: a byte of a name that is not UTF-8 is written as it is, another character
-    as an escape."""
+    """Handles what standard output cannot show: a byte of a name that is not UTF-8 is written as it is, another
+    character as an escape."""
     assert isinstance(error, UnicodeEncodeError)
     character = error.object[error.start]
     if '\udc80' <= character <= '\udcff':

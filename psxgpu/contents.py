@@ -95,8 +95,8 @@ def slimmed(program: str, path: str, name: str) -> Slim:
 
 
 class Contents(NamedTuple):
-    """What a capture contains. `refused`: the line of psxgpu_tool, if it refuses the capture; then what follows is of the
-    `good` events before."""
+    """What a capture contains. `refused`: the line of psxgpu_tool, if it refuses the capture; then what follows is of
+    the `good` events before."""
     records: Count
     refused: str
     good: int

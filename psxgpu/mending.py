@@ -26,8 +26,8 @@ def rest_of(tag: int, data: bytes) -> bytes:
 
 
 class Whole(NamedTuple):
-    """What is whole of a recording: its first `size` bytes, and the bytes that have to follow, none if it is whole. `damage`
-    is what is there instead of a record, if there is something: then what follows it is lost."""
+    """What is whole of a recording: its first `size` bytes, and the bytes that have to follow, none if it is whole.
+    `damage` is what is there instead of a record, if there is something: then what follows it is lost."""
     size: int
     rest: bytes
     damage: str = ''

@@ -31,8 +31,8 @@ def kill(child: "subprocess.Popen[bytes]") -> None:
 
 @contextlib.contextmanager
 def session(words: List[str], **settings: Any) -> Iterator["subprocess.Popen[bytes]"]:
-    """A process that is a session of its own, so Ctrl-C does not reach it. It is ended if the block raises, or if the run
-    is stopped. The block waits for its end."""
+    """A process that is a session of its own, so Ctrl-C does not reach it. It is ended if the block raises, or if the
+    run is stopped. The block waits for its end."""
     child = subprocess.Popen(words, start_new_session=True, **settings)     # pylint: disable=consider-using-with
     RUNNING.add(child)
     try:

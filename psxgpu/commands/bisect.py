@@ -37,8 +37,10 @@ from psxgpu.players.two_players import Players
 
 def arguments(parser: argparse.ArgumentParser) -> None:
     """Adds the arguments of this tool."""
-    parser.add_argument('capture', type=Source, metavar='CAPTURE', help='a capture or a dump of a GPU; - is standard input')
-    parser.add_argument('ours', type=Command, metavar='OURS', help='a shell command: it reads a capture and writes a dump')
+    parser.add_argument('capture', type=Source, metavar='CAPTURE',
+                        help='a capture or a dump of a GPU; - is standard input')
+    parser.add_argument('ours', type=Command, metavar='OURS',
+                        help='a shell command: it reads a capture and writes a dump')
     parser.add_argument('theirs', type=Command, metavar='THEIRS', help='another such command')
     parser.add_argument('--tolerance', type=decimal(0, 31), default=0, metavar='N',
                         help='cells whose channels are at most N steps apart count as equal')

@@ -43,8 +43,10 @@ from psxgpu.players.trial_run import try_player
 
 def arguments(parser: argparse.ArgumentParser) -> None:
     """Adds the arguments."""
-    parser.add_argument('tested', nargs='?', type=Command, metavar='PLAYER', help='a shell command: capture in, dump out')
-    parser.add_argument('--only', action='append', type=Text, default=[], metavar='NAME', help='a chapter, or CHAPTER/TEST')
+    parser.add_argument('tested', nargs='?', type=Command, metavar='PLAYER',
+                        help='a shell command: capture in, dump out')
+    parser.add_argument('--only', action='append', type=Text, default=[], metavar='NAME',
+                        help='a chapter, or CHAPTER/TEST')
     parser.add_argument('--page', type=Target, metavar='FILE',
                         help='write a page with pictures: theirs, ours, the difference')
     parser.add_argument('--junit', type=Target, metavar='FILE', help='write JUnit XML')

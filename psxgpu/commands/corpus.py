@@ -64,18 +64,20 @@ def arguments(parser: argparse.ArgumentParser) -> None:
                         help='record, split: frames end at marks (GP1 3Fh) and not at new display starts')
     parser.add_argument('--names', action='append', type=Text, metavar='PATTERN',
                         help='record, check: names of captures (default: %s)' % ' '.join(NAMES))
-    parser.add_argument('--reference', type=Command, metavar='COMMAND', help='check: a player that gives the recorded results')
+    parser.add_argument('--reference', type=Command, metavar='COMMAND',
+                        help='check: a player that gives the recorded results')
     parser.add_argument('--reduce', action='store_true',
                         help='check, with --reference: write the smallest capture for each that differs')
     parser.add_argument('--report', type=tree(REPORT), metavar='FOLDER',
                         help='check: the folder of the report (default: corpus-report)')
-    parser.add_argument('--played', type=Source, metavar='FILE', help='check: sums played elsewhere; the rest is played here')
+    parser.add_argument('--played', type=Source, metavar='FILE',
+                        help='check: sums played elsewhere; the rest is played here')
     parser.add_argument('--pictures', type=decimal(0, 100000), default=50, metavar='N',
                         help='check: the most pictures in the report (default: %(default)s)')
     parser.add_argument('--parts', type=decimal(2, 1000), metavar='N', help='split: the number of parts')
     parser.add_argument('-o', '--output', type=Text, metavar='PATH',
-                        help='the same as --golden for record and join, --report for check, --into for split; glue: the '
-                             'file to write (default: standard output)')
+                        help='the same as --golden for record and join, --report for check, --into for split; glue: '
+                             'the file to write (default: standard output)')
     parser.add_argument('--into', type=tree(SPLIT), metavar='FOLDER', help='split: the folder for the parts')
 
 

@@ -19,7 +19,8 @@ from psxgpu.players import player
 
 def arguments(parser: argparse.ArgumentParser) -> None:
     """Adds the arguments of this tool."""
-    parser.add_argument('capture', type=Source, metavar='CAPTURE', help='a capture or a dump of a GPU; - is standard input')
+    parser.add_argument('capture', type=Source, metavar='CAPTURE',
+                        help='a capture or a dump of a GPU; - is standard input')
     once(parser, 'film', Target, 'the film to write; the end of its name decides the format')
     parser.add_argument('--rate', type=decimal(1, 1000), default=60, metavar='N',
                         help='frames a second (default: %(default)s)')

@@ -22,7 +22,8 @@ MOST_BYTES = 1 << 30
 
 def arguments(parser: argparse.ArgumentParser) -> None:
     """Adds the arguments of this tool."""
-    parser.add_argument('captures', nargs='+', type=Source, metavar='CAPTURE', help='the captures in the order of the session')
+    parser.add_argument('captures', nargs='+', type=Source, metavar='CAPTURE',
+                        help='the captures in the order of the session')
     parser.add_argument('-o', '--output', type=Grown, default='-', metavar='OUTPUT',
                         help='the capture to write, which may be one of them; standard output if left out')
 

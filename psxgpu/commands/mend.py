@@ -7,8 +7,8 @@
 All events that are there are kept, also those of a record that is cut, and End follows. Without OUTPUT, the recording
 itself becomes the whole one. If something in the middle is not a record, the events before it are kept; this needs an
 OUTPUT, since the recording has more. So does a recording that is packed (.gz, .xz, .zst); OUTPUT is packed if its name
-ends so. Of packed bytes that are cut or damaged, what can be unpacked is kept. Status: 0 it is whole now; 2 an error, and
-the recording stays as it is.
+ends so. Of packed bytes that are cut or damaged, what can be unpacked is kept. Status: 0 it is whole now; 2 an error,
+and the recording stays as it is.
 """
 import argparse
 import contextlib

@@ -30,7 +30,8 @@ TOGETHER = 256      # entries that are written at once
 
 def arguments(parser: argparse.ArgumentParser) -> None:
     """Adds the arguments of this tool."""
-    parser.add_argument('capture', type=Source, metavar='CAPTURE', help='a capture or a dump of a GPU; - is standard input')
+    parser.add_argument('capture', type=Source, metavar='CAPTURE',
+                        help='a capture or a dump of a GPU; - is standard input')
     parser.add_argument('--name', action='append', choices=NAMES, metavar='NAME',
                         help='only these packets and events, some of: ' + ', '.join(NAMES))
     parser.add_argument('--cell', type=decimal(0, 1023), nargs=2, metavar=('X', 'Y'),

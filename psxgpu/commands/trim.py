@@ -40,7 +40,8 @@ def frame_range(text: str) -> Range:
 
 def arguments(parser: argparse.ArgumentParser) -> None:
     """Adds the arguments of this tool."""
-    parser.add_argument('capture', type=Source, metavar='CAPTURE', help='a capture or a dump of a GPU; - is standard input')
+    parser.add_argument('capture', type=Source, metavar='CAPTURE',
+                        help='a capture or a dump of a GPU; - is standard input')
     parser.add_argument('--frames', type=frame_range, required=True, metavar='A-B', help='the first and the last frame')
     once(parser, 'output', Packed, 'the snapshot to write; standard output if left out', '-')
     parser.add_argument('--flips', action='store_true', help='a frame ends at each flip, even if there are marks')

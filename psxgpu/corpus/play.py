@@ -51,7 +51,7 @@ class Player:
                 return run.out.readline().decode('utf-8', 'replace').strip() if run.end == 'played' else ''
 
     def ask_first(self) -> None:
-        """Raises ToolError if it writes dumps, and these do not start as zeros, are not whole or are not always the same."""
+        """Raises ToolError if it writes dumps, and these do not start as zeros, are not whole or not always the same."""
         if self.gives != ('words',) and dump_of(self.command.run('vram', EMPTY, self.limit)):
             try_player(self.command, seconds=self.limit)
 

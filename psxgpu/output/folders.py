@@ -79,7 +79,8 @@ class Folder:
         return os.path.join(self.path, names[0])
 
     def mark(self, names: Iterable[str]) -> None:
-        """Writes the mark with more names. Raises ToolError if a file of such a name is there that the tool did not write."""
+        """Writes the mark with more names. Raises ToolError if a file of such a name is there that the tool did not
+        write."""
         old = set(mark_of(self.path)[1:])
         for name in names:
             if name not in old and os.path.lexists(os.path.join(self.path, name)):

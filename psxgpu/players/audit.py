@@ -120,7 +120,8 @@ class Row:
             k = next(k for k in range(len(mine)) if mine[k] != theirs[k])
             x1, y1, x2, _ = target.box
             self.first = 'event %d %08x: %s, first (%d, %d): ours %04x, theirs %04x' % (
-                target.event, target.word, counted(count, 'cell'), x1 + k % (x2 - x1 + 1), y1 + k // (x2 - x1 + 1), mine[k], theirs[k])
+                target.event, target.word, counted(count, 'cell'), x1 + k % (x2 - x1 + 1), y1 + k // (x2 - x1 + 1),
+                mine[k], theirs[k])
 
 
 def audit(data: bytes, ours: Player, theirs: Player, first: int, last: int, name: str = 'capture') -> Dict[str, Row]:

@@ -116,9 +116,11 @@ def first_difference(names: Tuple[str, str], paths: Tuple[str, str], program: st
             finding.frames += 1
     check_whole(names, sides, finding.frames)
     finding.is_other_memory = sides[0].memory != sides[1].memory
-    finding.lines = ['equal: %s%s' % (counted(finding.frames, 'frame'), '' if finding.is_other_memory else ', and video memory')]
+    finding.lines = ['equal: %s%s' % (counted(finding.frames, 'frame'),
+                                      '' if finding.is_other_memory else ', and video memory')]
     if finding.is_other_memory:
-        finding.lines.append('video memory after the end differs: ours %s, theirs %s' % (sides[0].memory, sides[1].memory))
+        finding.lines.append('video memory after the end differs: ours %s, theirs %s'
+                             % (sides[0].memory, sides[1].memory))
     return finding
 
 

@@ -42,8 +42,8 @@ def is_named(given: Optional[str]) -> bool:
 
 
 def find(given: Optional[str] = None) -> str:
-    """Returns the path of the program: `given`, that of $PLAYER, of the path, or of the checkout. Raises ToolError if the
-    one that is named is not there, or if there is none."""
+    """Returns the path of the program: `given`, that of $PLAYER, of the path, or of the checkout. Raises ToolError if
+    the one that is named is not there, or if there is none."""
     if given:
         return program_of(given, '')
     named = os.environ.get('PLAYER')

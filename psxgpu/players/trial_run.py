@@ -1,4 +1,4 @@
-"""Asks a player before it is compared: it has to write a whole dump, of zeros at the beginning, twice the same bytes."""
+"""Asks a player before it is compared: it has to write a whole dump, of zeros at first, and twice the same bytes."""
 from __future__ import annotations
 
 from concurrent.futures import ThreadPoolExecutor
@@ -49,8 +49,8 @@ def refuse(player: Player, role: str, reason: str) -> ToolError:
 
 
 def try_player(player: Player, role: str = ALONE, version: int = 1, seconds: Optional[float] = None) -> None:
-    """Raises ToolError if a player writes no whole dump, if video memory does not start as zeros, if it writes other bytes
-    for the same capture, or the same dump of a capture that draws as of one that does not."""
+    """Raises ToolError if a player writes no whole dump, if video memory does not start as zeros, if it writes other
+    bytes for the same capture, or the same dump of a capture that draws as of one that does not."""
     empty, drawn = trial_captures(version)
     before, size = expect_dump(player, empty, seconds), 2 * WIDTH * (1024 if version == 3 else 512)
     if len(before) != size:
@@ -80,8 +80,8 @@ def words_of(player: Player, data: bytes, seconds: Optional[float] = None) -> Li
 
 
 def try_words(player: Player, role: str, version: int = 1, seconds: Optional[float] = None) -> None:
-    """Raises ToolError if a player does not write the words that it reads, if video memory does not start as zeros, or if
-    it writes other bytes for the same capture."""
+    """Raises ToolError if a player does not write the words that it reads, if video memory does not start as zeros, or
+    if it writes other bytes for the same capture."""
     capture = Capture(version).gp0(store(0, 0, 2, 1)).read()
     data = capture.gp0(load(64, 0, 2, 1, [1, 2]), store(64, 0, 2, 1)).read().bytes()
     words = words_of(player, data, seconds)

@@ -22,8 +22,8 @@ class Fault:
     mode = 'vram'
 
     def shows(self, ours: Player, theirs: Player, data: bytes, seconds: Optional[float], strict: bool = False) -> bool:
-        """Returns whether the capture `data` shows the fault. A player gets `seconds` for its run. Raises ToolError if a
-        player gives no answer and `strict` is true; else the capture then does not show it."""
+        """Returns whether the capture `data` shows the fault. A player gets `seconds` for its run. Raises ToolError if
+        a player gives no answer and `strict` is true; else the capture then does not show it."""
         raise NotImplementedError
 
 

@@ -26,7 +26,8 @@ class Prober:
         self.count = 0
 
     def look(self, data: bytes) -> bool:
-        """Returns whether a part of the user's capture shows the fault. Raises ToolError if a player gives no answer."""
+        """Returns whether a part of the user's capture shows the fault. Raises ToolError if a player gives no
+        answer."""
         return self.fault.shows(self.ours, self.theirs, data, self.seconds, strict=True)
 
     def probe(self, data: bytes) -> bool:

@@ -50,7 +50,7 @@ def how_it_differs(reducer: Reducer, data: bytes) -> Tuple[List[str], Optional[T
     tolerance = prober.fault.tolerance if isinstance(prober.fault, DumpsDiffer) else 0
     difference = compared(ours, theirs, tolerance) if ours and theirs else None
     if not ours or not theirs or difference is None or not difference.count:
-        raise ToolError('the smallest capture does not show the difference again: a player writes other bytes each time')
+        raise ToolError('the smallest capture does not show the difference again: a player writes other bytes now')
     return difference.lines(), (ours, theirs)
 
 

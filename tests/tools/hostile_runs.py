@@ -1,4 +1,4 @@
-"""Runs the tools with random arguments, names, files and interrupts, and looks for tracebacks and for files that are lost.
+"""Runs the tools with random arguments, names, files and interrupts, and looks for tracebacks and for lost files.
 
     python3 -m tests.tools.hostile_runs [RUNS] [SEED]
 
@@ -21,9 +21,11 @@ from psxgpu.command import parser_of
 from tests import support
 
 SECONDS = 120
-NAMES = (b'a.capture', b'-dash.capture', b'\xff\xfe.capture', b'a b.capture', b"q'uote.capture", b'new\nline.capture', b'c.gz',
-         'é.capture'.encode(), b'a.log', b'a.bin', b'cut', b'bad', b'empty', b'folder', b'link', b'none', b'-', b'/dev/null', b'')
-OUTPUTS = (*NAMES, b'out', b'out.png', b'out.gz', b'out.zip', b'folder/out', b'none/out', b'.', b'/dev/full', b'/dev/stdout')
+NAMES = (b'a.capture', b'-dash.capture', b'\xff\xfe.capture', b'a b.capture', b"q'uote.capture", b'new\nline.capture',
+         b'c.gz', 'é.capture'.encode(), b'a.log', b'a.bin', b'cut', b'bad', b'empty', b'folder', b'link', b'none', b'-',
+         b'/dev/null', b'')
+OUTPUTS = (*NAMES, b'out', b'out.png', b'out.gz', b'out.zip', b'folder/out', b'none/out', b'.', b'/dev/full',
+           b'/dev/stdout')
 PLAYERS = ('@', '@ vram', 'tr "\\140" "\\142" | @', 'false', 'kill -9 $$', 'cat', 'sleep 1', 'none', '', "a 'quote",
            'head -c 1048576 /dev/zero #', 'cat > /dev/null; head -c 1048576 /dev/urandom #')
 

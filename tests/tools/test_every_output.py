@@ -1,5 +1,5 @@
-"""Every tool with every output on an input, and on a folder with a user's files: no file is lost. The outputs are found from
-the parsers, so a new tool has to name what it reads and writes, and needs a row in RUNS."""
+"""Every tool with every output on an input, and on a folder with a user's files: no file is lost. The outputs are found
+from the parsers, so a new tool has to name what it reads and writes, and needs a row in RUNS."""
 import argparse
 import contextlib
 import io
@@ -19,18 +19,22 @@ CORPUS = ['--player', './other', '--jobs', '1', '--gives', 'vram']
 RUNS = {
     'first': ['2', 'in.capture'], 'join': ['in.capture', 'in2.capture'], 'mend': ['cut.capture'], 'from-log': ['in.log'],
     'from-dump': ['in.psxgpu'], 'to-dump': ['in.capture'], 'to-exe': ['in.capture', '-o', 'new.exe'],
-    'picture': ['in.bin', '-o', 'new.png'], 'film': ['in.capture', '-o', 'new.mp4', '--flips'], 'textures': ['in.capture'],
+    'picture': ['in.bin', '-o', 'new.png'], 'film': ['in.capture', '-o', 'new.mp4', '--flips'],
+    'textures': ['in.capture'],
     'heat': ['in.capture'], 'compare': ['in.bin', 'in2.bin'], 'audit': ['in.capture', './ours', './other'],
     'reduce': ['in.capture', './ours', './other', '--jobs', '1'], 'conform': ['./other', *ONLY],
     'corpus record': ['record', 'in', '--golden', 'new.sums', *CORPUS],
-    'corpus check': ['check', 'in', '--golden', 'in.sums', *CORPUS], 'corpus join': ['join', 'in.sums', '--golden', 'new.sums'],
+    'corpus check': ['check', 'in', '--golden', 'in.sums', *CORPUS],
+    'corpus join': ['join', 'in.sums', '--golden', 'new.sums'],
     'corpus split': ['split', 'in.capture', '--parts', '2', '--into', 'new', '--player', support.PLAYER],
     'corpus glue': ['glue', 'play', 'in.play', 'in.play'],
-    'trim': ['in.capture', '--frames', '1-1'], 'diff': ['in.capture', 'in2.capture'], 'packets': ['in.capture'], 'check': ['in.capture'], 'bisect': ['in.capture', './ours', './other'],
+    'trim': ['in.capture', '--frames', '1-1'], 'diff': ['in.capture', 'in2.capture'],
+    'packets': ['in.capture'], 'check': ['in.capture'], 'bisect': ['in.capture', './ours', './other'],
     'agree': ['./ours', './other', '1', 'fills'], 'selftest': [],
 }
 READ = {('corpus check', '--golden')}       # what is an output of other actions only
-USER = ('index.html', 'report.html', 'expected.tsv', 'sheet.png', '001.capture', 'played.sums', 'captures/fills/color.capture')
+USER = ('index.html', 'report.html', 'expected.tsv', 'sheet.png', '001.capture', 'played.sums',
+        'captures/fills/color.capture')
 
 
 def scene():
