@@ -15,7 +15,7 @@ ALLOWED = {
     'shutil': {'which'},
     'io': {'BytesIO', 'StringIO', 'TextIOWrapper'},
     'gzip': {'BadGzipFile', 'GzipFile'},
-    'lzma': {'LZMAError', 'LZMAFile'},
+    'lzma': {'FORMAT_XZ', 'LZMADecompressor', 'LZMAError', 'LZMAFile'},
     # Files of the tool itself, with names that nobody else has.
     'tempfile': {'NamedTemporaryFile', 'SpooledTemporaryFile', 'TemporaryDirectory', 'TemporaryFile', 'gettempdir',
                  '_TemporaryFileWrapper'},
