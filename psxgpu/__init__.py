@@ -5,10 +5,12 @@
 names of `psxgpu.machine` are also those of the package: `psxgpu.Machine`, `psxgpu.play`, `psxgpu.Recording`. They load
 when first used.
 """
-import importlib
-from typing import TYPE_CHECKING, Any, List
+from __future__ import annotations
 
+TYPE_CHECKING = False       # no module loads before `psxgpu.__main__` has the signals
 if TYPE_CHECKING:
+    from typing import Any, List
+
     from psxgpu.machine import (MODES, Error, Frame, Machine, Missing, Note, OutOfMemory, Packet, Record, Recording,
                                 Refused, Registers, Snapshot, play)
     from psxgpu.machine.library import library
@@ -22,6 +24,7 @@ def __getattr__(name: str) -> Any:
     """Returns a public name of `psxgpu.machine`."""
     if name not in __all__:                 # a module of the package, which is about to be imported, among others
         raise AttributeError('module %r has no attribute %r' % (__name__, name))
+    import importlib
     return getattr(importlib.import_module('psxgpu.machine'), name)
 
 
