@@ -47,7 +47,7 @@ class Streams(unittest.TestCase):
             self.assertRaisesRegex(ToolError, 'it: byte %d: ' % place, list, stream(b'PSXGPUC1' + record + bytes(40)))
 
     def test_beginning_and_rest(self):
-        from make import EXAMPLES
+        from examples.make import EXAMPLES
         for make in EXAMPLES.values():
             data = make().bytes()
             whole = events(data)
