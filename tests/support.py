@@ -8,7 +8,6 @@ import unittest
 
 TOP = os.path.dirname(os.path.dirname(os.path.abspath(__file__)))
 EXAMPLES = os.path.join(TOP, 'examples')
-os.environ['PYTHONPATH'] = TOP      # for the tools and players that the tests start
 
 from psxgpu.players import player
 from psxgpu.command import ToolError

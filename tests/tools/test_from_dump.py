@@ -155,7 +155,7 @@ class Command(support.InFolder):
         self.assertEqual(self.read('capture'), b'kept')
         dump = self.write('a.psxgpu', HAND_MADE)
         for words, why in (([dump, '-o', dump], 'is also the input'), ([dump, '--reads', dump], 'is also the input'),
-                           ([dump, '-o', 'x', '--reads', 'x'], 'named for the capture and for the reads')):
+                           ([dump, '-o', 'x', '--reads', 'x'], 'named for two outputs')):
             done = self.run_from_dump(*words)
             self.assertEqual(done.returncode, 2)
             self.assertIn(why, done.stderr)
