@@ -113,7 +113,8 @@ class Audits(unittest.TestCase):
         folder = os.path.join(self.folder, 'small')
         status, lines = self.audit(self.fills(), self.shorter, '--reduce', folder)
         self.assertEqual((status, lines[-1]), (1, '1 class reduced: %s' % os.path.join(folder, 'index.html')))
-        self.assertEqual(sorted(os.listdir(folder)), ['fill.capture', 'fill.log', 'fill.png', 'fill.py', 'index.html'])
+        self.assertEqual(sorted(os.listdir(folder)), ['.psxgpu-output', 'fill.capture', 'fill.log', 'fill.png', 'fill.py',
+                                                       'index.html'])
         with open(os.path.join(folder, 'fill.capture'), 'rb') as file:
             (kind, _, words), = c.records(file.read())[1]
         self.assertEqual((kind, words[1:]), (c.GP0, [0, 0x00010001]))
