@@ -1,14 +1,15 @@
 -- The pixels of a picture with an alpha.
 use Rattle.std.proofs.Common.{◌≡◌, ◌≤◌, ◌+◌, ◌-◌, ◌*◌, ◌++◌, ◌∷◌, [], ◌∙◌, ℕ, zero, suc, List, refl, ap, arith}
-use Rattle.std.proofs.Common.{length, take, drop, slice_range, add-one, Bool, true, false, if◌then◌else◌}
+use Rattle.std.proofs.Common.{length, take, drop, slice_range, add-one}
 use Rattle.std.proofs.Common.{length-append, length-drop}
 use Rattle.std.proofs.lemmas.Grind.{common_steps}
 use Rattle.std.proofs.lemmas.Slice.{take-put_mid}
 use Rattle.std.proofs.Math.Seq.{drop-append_seam}
 use borrow.Rule.Slice.PartMut.{put_mid}
 use Rattle.gp1_status.specs.Registers.{Registers}
-use Rattle.picture_out.specs.Picture.{display_of, numbered_pixel, pixels_from, picture_head, picture_of}
+use Rattle.picture_out.specs.Picture.{display_of, pixels_from, picture_head, picture_of}
 use Rattle.psxgpu_c.specs.Shown.{with_alpha}
+use Rattle.psxgpu_c.proofs.Capacity.{length_pixels}
 
 -- one more pixel
 pub alpha_more : (bytes out part : List ℕ) (k w : ℕ) → take (4 * k) out ≡ with_alpha bytes k
@@ -17,25 +18,6 @@ pub alpha_more : (bytes out part : List ℕ) (k w : ℕ) → take (4 * k) out �
 alpha_more bytes out part k w so_far is le long =
     let e : 3 * k + 3 - 3 * k ≡ 3 = omega arith in
     rw (take-put_mid (4 * k) w out part (4 * (k + 1)) (omega (arith, long)) le, so_far, is, add-one, e) refl
-
-either_long : (deep : Bool) (a b : List ℕ) → length a ≡ 3 → length b ≡ 3 → length (if deep then a else b) ≡ 3
-either_long true a b first second = first
-either_long false a b first second = second
-
-length_pixel : (m : List ℕ) (regs : Registers) (shape : ℕ × ℕ) (k : ℕ)
-    → length (numbered_pixel m (display_of regs shape) k) ≡ 3
-unfolding numbered_pixel
-length_pixel m regs shape k = either_long (display_of regs shape).is_deep _ _ refl refl
-
--- three bytes per pixel
-pub length_pixels : (m : List ℕ) (regs : Registers) (shape : ℕ × ℕ) (first n : ℕ)
-    → length (pixels_from m (display_of regs shape) first n) ≡ 3 * n
-length_pixels m regs shape first zero = refl
-length_pixels m regs shape first (suc n) =
-    let shown = display_of regs shape in
-    let one = length_pixel m regs shape (first + n) in
-    let before = length_pixels m regs shape first n in
-    rw (length-append (pixels_from m shown first n) (numbered_pixel m shown (first + n)), before, one) (omega arith)
 
 -- four bytes per pixel
 pub length_alpha : (bytes : List ℕ) (n : ℕ) → 3 * n ≤ length bytes → length (with_alpha bytes n) ≡ 4 * n

@@ -9,6 +9,7 @@ mod ended;
 mod fill;
 mod front;
 mod handle;
+mod in_memory;
 mod looks;
 mod machine;
 mod memory;

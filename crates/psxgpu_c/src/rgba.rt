@@ -20,7 +20,7 @@ pub(crate) fn put_rgba(alloc: Global, rig: &Rig, out: &mut [u8]) -> Result<usize
     if out.len() < 4 * count {
         return Err(Refusal::NoRoom);
     }
-    let Ok(sink) = picture_in_memory(alloc, rig, count) else {
+    let Ok(sink) = picture_in_memory(alloc, rig, (width, lines)) else {
         return Err(Refusal::NoMemory);
     };
     add_alpha(last_bytes(sink.bytes(), 3 * count), count, out);

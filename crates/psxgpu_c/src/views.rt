@@ -1,5 +1,5 @@
 // Writes video memory and the shown picture as bytes.
-ghost use Rattle.std.specs.Prelude.{◌≡◌, ◌<◌, ◌^◌, IfOk, IsSome, Some};
+ghost use Rattle.std.specs.Prelude.{◌≡◌, ◌<◌, IfOk, Some};
 ghost use Rattle.gp1_status.specs.Shape.{shape_of};
 ghost use Rattle.picture_out.specs.Dump.{dump};
 ghost use Rattle.picture_out.specs.Picture.{picture};
@@ -7,18 +7,16 @@ ghost use Rattle.vram_store.specs.Vram.{at};
 ghost use Rattle.psxgpu_c.specs.Shown.{PutsDue, picture_due};
 
 use crate::front::put_front;
+use crate::in_memory::{dump_in_memory, ppm_in_memory};
 use crate::refusal::Refusal;
-use dev_io::MemSink;
+use crate::room_sink::RoomSink;
 use event_play::Rig;
-use picture_out::{shape, write_ppm, write_vram};
+use picture_out::shape;
 use px_num::OutOfMemory;
 use std::alloc::Global;
 use std::marker::Brand;
 use std::sync::ledger::{Blank, Ledger};
 use vram_store::Steps;
-
-/// The maximum size in bytes of a PPM header.
-const MOST_HEAD: usize = 32;
 
 /// Writes the bytes of video memory to the start of `out`, and returns their number.
 pub(crate) fn put_vram(alloc: Global, rig: &Rig, out: &mut [u8]) -> Result<usize, Refusal>
@@ -39,12 +37,8 @@ fn put_dump<L: Ledger>(
     ensures { PutsDue (Some (dump rig.now.gpu.parts.m)) out.old out.new result }
 {
     let mut steps = Steps::<L>::new(blank);
-    let vram = rig.gpu().vram();
-    let Ok(mut sink) = MemSink::new(alloc, 2048 * vram.height() as usize) else {
-        return Err(Refusal::NoMemory);
-    };
-    match write_vram(vram, &mut sink, &mut steps) {
-        Ok(()) => put_front(out, sink.bytes()),
+    match dump_in_memory(alloc, rig.gpu().vram(), &mut steps) {
+        Ok(sink) => put_front(out, sink.bytes()),
         Err(_) => Err(Refusal::NoMemory),
     }
 }
@@ -54,48 +48,43 @@ fn put_dump<L: Ledger>(
 pub(crate) fn put_picture(alloc: Global, rig: &Rig, out: &mut [u8]) -> Result<usize, Refusal>
     ensures { PutsDue (picture_due rig.now) out.old out.new result }
 {
-    let Some((width, lines)) = shape(rig.gpu().regs()) else {
+    let Some(size) = shape(rig.gpu().regs()) else {
         return Err(Refusal::NoPicture);
     };
-    match picture_in_memory(alloc, rig, width as usize * lines as usize) {
+    match picture_in_memory(alloc, rig, size) {
         Ok(sink) => put_front(out, sink.bytes()),
         Err(_) => Err(Refusal::NoMemory),
     }
 }
 
-/// Returns the shown picture as PPM in memory of its own. `count`: its number of pixels. Requires that there is one.
+/// Returns the shown picture as PPM in memory of its own. `size`: its width and height in pixels. Fails only if memory
+/// runs out.
 pub(crate) fn picture_in_memory(
     alloc: Global,
     rig: &Rig,
-    count: usize,
-) -> Result<MemSink, OutOfMemory>
-    requires shown { IsSome (shape_of rig.now.gpu.parts.regs) }
-    requires few { count < 2 ^ 32 }
+    size: (u16, u16),
+) -> Result<RoomSink, OutOfMemory>
+    requires { shape_of rig.now.gpu.parts.regs ≡ Some size }
     ensures { IfOk result (λ sink. sink.held ≡ picture rig.now.gpu.parts.m rig.now.gpu.parts.regs) }
 {
-    write_picture::<Brand>(alloc, rig, count, Blank::new(1))
+    write_picture::<Brand>(alloc, rig, size, Blank::new(1))
 }
 
 fn write_picture<L: Ledger>(
     alloc: Global,
     rig: &Rig,
-    count: usize,
+    size: (u16, u16),
     blank: Blank,
-) -> Result<MemSink, OutOfMemory>
+) -> Result<RoomSink, OutOfMemory>
     requires name { blank.name ≡ L.name }
     requires parts { blank.parts ≡ L.parts }
     requires some { 0 < blank.parts }
-    requires shown { IsSome (shape_of rig.now.gpu.parts.regs) }
-    requires few { count < 2 ^ 32 }
+    requires shown { shape_of rig.now.gpu.parts.regs ≡ Some size }
     ensures { IfOk result (λ sink. sink.held ≡ picture rig.now.gpu.parts.m rig.now.gpu.parts.regs) }
 {
     let mut steps = Steps::<L>::new(blank);
     let gpu = rig.gpu();
-    let mut sink = MemSink::new(alloc, 3 * count + MOST_HEAD)?;
-    match write_ppm(gpu.vram(), gpu.regs(), &mut sink, &mut steps) {
-        Ok(()) => Ok(sink),
-        Err(_) => Err(OutOfMemory),
-    }
+    ppm_in_memory(alloc, gpu.vram(), gpu.regs(), size, &mut steps)
 }
 
 /// Returns a cell. Requires that column and row are in video memory.
