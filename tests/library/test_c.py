@@ -56,7 +56,7 @@ class Library(unittest.TestCase):
         """As C and as C++, with either library, it writes the same."""
         ways = [(C, [ARCHIVE]), (CPP, [ARCHIVE]), (C, SHARED), ([*C, *SANITIZED], [ARCHIVE])]
         ways = [(words, links) for words, links in ways if shutil.which(words[0])]
-        found = {self.run_in_folder(self.build('example', words, 'example.c', links)) for words, links in ways}
+        found = {self.run_in_folder(self.build('example', words, os.path.join(HEADER, 'example.c'), links)) for words, links in ways}
         self.assertEqual(len(found), 1)
         self.assertIn('status', found.pop())
 
@@ -104,7 +104,7 @@ class Library(unittest.TestCase):
         usr = os.path.join(self.folder, 'usr')
         flags = ['-I', os.path.join(usr, 'include'), '-L', os.path.join(usr, 'lib'), '-lpsxgpu']
         flags.append('-Wl,-rpath,' + os.path.join(usr, 'lib'))
-        path = self.build('installed', [CC, '-std=c99'], 'example.c', flags)
+        path = self.build('installed', [CC, '-std=c99'], os.path.join(HEADER, 'example.c'), flags)
         self.assertIn('status', self.run_in_folder(path))
         self.assertTrue(os.access(os.path.join(usr, 'bin', 'psxgpu_tool'), os.X_OK))
         subprocess.run([*there, 'uninstall'], check=True)
