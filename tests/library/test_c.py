@@ -56,7 +56,8 @@ class Library(unittest.TestCase):
         """As C and as C++, with either library, it writes the same."""
         ways = [(C, [ARCHIVE]), (CPP, [ARCHIVE]), (C, SHARED), ([*C, *SANITIZED], [ARCHIVE])]
         ways = [(words, links) for words, links in ways if shutil.which(words[0])]
-        found = {self.run_in_folder(self.build('example', words, os.path.join(HEADER, 'example.c'), links)) for words, links in ways}
+        example = os.path.join(HEADER, 'example.c')
+        found = {self.run_in_folder(self.build('example', words, example, links)) for words, links in ways}
         self.assertEqual(len(found), 1)
         self.assertIn('status', found.pop())
 
