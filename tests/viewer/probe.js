@@ -34,7 +34,7 @@ const probe = (() => {
         },
 
         memory: () => sum(viewer.app.cells),
-        picture: async () => viewer.app.picture && sumOfParts(module_out.ppmOf(viewer.app.picture)),
+        picture: async () => viewer.app.picture && sumOfParts(module_saving.ppmOf(viewer.app.picture)),
 
         // The whole state at this place.
         state: () => sum(module_outline.renumbered(viewer.app.machine.stateView(), viewer.app.at)),
