@@ -16,6 +16,9 @@ searches the smallest capture for which THEIRS gives no dump. With --ignore, dif
 as for `bisect`, and the result has no packet of these classes. With --keep the packet stays shaded, textured, raw or
 semi-transparent as it was.
 
+With --without FEATURE, each smaller capture still differs, and does not differ without this feature (dither, say). So
+the result cannot be another fault.
+
 Status: 0 no difference, 1 one was found, 2 an error.
 """
 from __future__ import annotations
@@ -29,6 +32,7 @@ from psxgpu import progress
 from psxgpu.command import DIFFERENT, SAME, decimal, parser_of, title
 from psxgpu.commands import to_exe
 from psxgpu.files import plain
+from psxgpu.fuzz.deciding import DECIDED, of_units
 from psxgpu.output import Command, Source, stem, write_several
 from psxgpu.packets.known import CLASSES, NAMES
 from psxgpu.players import player
@@ -36,6 +40,7 @@ from psxgpu.players.flat import flattened
 from psxgpu.players.named import player_of
 from psxgpu.players.trial_run import OURS, THEIRS, try_players, try_words, version_for
 from psxgpu.reduce.faults import BreaksDown, DumpsDiffer, Fault, WordsDiffer
+from psxgpu.reduce.features import FEATURES
 from psxgpu.reduce.job import Job, Wanted
 from psxgpu.reduce.report import files_of, report_lines
 
@@ -52,6 +57,8 @@ def arguments(parser: argparse.ArgumentParser) -> None:
                         help='the beginning of the files\' names (default: %(default)s)')
     parser.add_argument('--event', type=decimal(1, 1 << 62), metavar='N', help='an event of the flat capture')
     parser.add_argument('--keep', action='store_true', help='the packet stays in its class')
+    parser.add_argument('--without', action='append', choices=sorted(FEATURES), default=[], metavar='FEATURE',
+                        help='a feature without which the players do not differ, some of: ' + ', '.join(sorted(FEATURES)))
     what = parser.add_mutually_exclusive_group()
     what.add_argument('--words', action='store_true', help='compare the words of reads and statuses')
     what.add_argument('--crash', action='store_true', help='THEIRS crashes')
@@ -87,7 +94,8 @@ def search(words: argparse.Namespace, path: str, name: str) -> int:
             try_words(one, role, version_for(path))
     else:
         try_players(ours, theirs, path)
-    wanted = Wanted(fault_of(words), words.ignore, words.keep, words.event, words.player)
+    wanted = Wanted(fault_of(words), words.ignore, words.keep, words.event, words.player,
+                    words.without)
     begin = time.monotonic()
     with Job(ours, theirs, wanted, words.seconds, words.jobs) as job:
         with progress.shown(name, is_quiet=True) as line, flattened(path, words.player) as flat:
@@ -97,6 +105,9 @@ def search(words: argparse.Namespace, path: str, name: str) -> int:
             print('no difference')
             return SAME
         print('\n'.join(report_lines(found)))
+        decided = of_units(found.units) if found.dumps else None
+        if decided:
+            print(DECIDED % (decided,))
         write_several(files_of(found, words.output, ['ours: ' + words.ours, 'theirs: ' + words.theirs]))
         if words.exe:
             write_program(words.output + '.capture', words.output + '.exe')

@@ -1,6 +1,7 @@
 """How simple units are. A candidate is only tried if it is strictly simpler, so the search ends."""
 from __future__ import annotations
 
+from array import array
 from typing import Iterator, Sequence, Tuple
 
 from psxgpu.packets.grammar import (COPY, ENVIRONMENT, LINE, LOAD, POLYGON, POLYLINE, RAW, RECTANGLE, SEMI, SHADED,
@@ -39,7 +40,7 @@ def bits(unit: Unit, is_tall: bool) -> int:
     """Returns how many bits are set. The bottom right corner of the drawing area counts from that of the whole."""
     if unit.name == ENVIRONMENT and unit.opcode == 0xE4:
         return bin(unit.words[0] ^ WHOLE_AREA[is_tall]).count('1')
-    return sum(bin(word).count('1') for word in unit.words)
+    return bin(int.from_bytes(array('I', unit.words).tobytes(), 'little')).count('1')       # all words as one number
 
 
 def detail_cost(units: Sequence[Unit], is_tall: bool) -> Tuple[int, int, int, int]:

@@ -1,13 +1,15 @@
-"""What is looked for in a capture: dumps that differ, words that differ, a player that breaks down."""
+"""What is looked for in a capture: dumps that differ, words that differ, a player that breaks down; or one of these in
+a capture, and not in the same one without a feature."""
 from __future__ import annotations
 
-from typing import NamedTuple, Optional, Tuple
+from typing import NamedTuple, Optional, Sequence, Tuple
 
 from psxgpu.command import ToolError
 from psxgpu.difference import compared
 from psxgpu.errors import counted
 from psxgpu.players.named import Player, dump_of, no_dump
 from psxgpu.players.trial_run import words_of
+from psxgpu.reduce.features import stripped
 
 
 class FirstWord(NamedTuple):
@@ -18,7 +20,7 @@ class FirstWord(NamedTuple):
 
 
 class Fault:
-    """Base of the three faults: whether a capture shows it."""
+    """Base of all faults: whether a capture shows it."""
     mode = 'vram'
 
     def shows(self, ours: Player, theirs: Player, data: bytes, seconds: Optional[float], strict: bool = False) -> bool:
@@ -71,6 +73,19 @@ class WordsDiffer(Fault):
     def shows(self, ours: Player, theirs: Player, data: bytes, seconds: Optional[float], strict: bool = False) -> bool:
         found = self.first(ours, theirs, data, seconds, strict)
         return found is not None and not (found.ours ^ found.theirs) & ~self.bits
+
+
+class Pair(Fault):
+    """A capture shows a fault, and no longer does without any one of some features. So a reduction cannot slip into
+    another fault."""
+
+    def __init__(self, fault: Fault, features: Sequence[str]) -> None:
+        self.fault, self.features, self.mode = fault, features, fault.mode
+
+    def shows(self, ours: Player, theirs: Player, data: bytes, seconds: Optional[float], strict: bool = False) -> bool:
+        def shows(one: bytes) -> bool:
+            return self.fault.shows(ours, theirs, one, seconds, strict)
+        return shows(data) and not any(shows(stripped(feature, data)) for feature in self.features)
 
 
 class BreaksDown(Fault):

@@ -1,13 +1,13 @@
 """The whole way from a flat capture to its reduced one."""
 from __future__ import annotations
 
-from typing import Callable, List, NamedTuple, Optional
+from typing import Callable, List, NamedTuple, Optional, Sequence
 
 from psxgpu.command import ToolError
 from psxgpu.players.beginning import first_bytes
 from psxgpu.players.named import Player, expect_dump
-from psxgpu.reduce.faults import BreaksDown, Fault, WordsDiffer
-from psxgpu.reduce.probing import Prober
+from psxgpu.reduce.batches import prober_of
+from psxgpu.reduce.faults import BreaksDown, Fault, Pair, WordsDiffer
 from psxgpu.reduce.reducer import Reducer
 from psxgpu.reduce.report import Reduced, reduced
 from psxgpu.reduce.search import Found, Search
@@ -18,13 +18,14 @@ MOST_TAIL = 4096            # units that are tried after a state
 
 
 class Wanted(NamedTuple):
-    """What is searched: the fault, classes that are ignored, whether the packet keeps its class, its event if it is
-    given, and the path of psxgpu_tool if that is given."""
+    """What is searched: the fault, classes that are ignored, whether the packet keeps its class, its event and the path
+    of psxgpu_tool if they are given, and the features without any of which the fault is not there."""
     fault: Fault
     ignore: List[str]
     keep: bool = False
     event: Optional[int] = None
     program: Optional[str] = None
+    without: Sequence[str] = ()
 
 
 class Job:
@@ -32,7 +33,7 @@ class Job:
 
     def __init__(self, ours: Player, theirs: Player, wanted: Wanted, seconds: Optional[float] = None,
                  jobs: Optional[int] = None, tell: Callable[[str], None] = lambda text: None) -> None:
-        self.prober = Prober(ours, theirs, wanted.fault, seconds, jobs)
+        self.prober = prober_of(ours, theirs, wanted.fault, seconds, jobs)
         self.wanted, self.tell = wanted, tell
 
     def __enter__(self) -> Job:
@@ -58,11 +59,29 @@ class Job:
             """Our dump after that many events."""
             return expect_dump(self.prober.ours, first_bytes(found.path, name, events), self.prober.seconds)
 
+        self.prober.fault = Pair(self.wanted.fault, self.wanted.without) if self.wanted.without else self.wanted.fault
         if reducer.start(tail.units, dump_at) is None:
-            raise ToolError('%s: event %d differs after all that is before it, and not after a state and %d packets'
-                          % (name, found.event, len(tail.units) - 1))
-        reducer.reduce(self.wanted.keep, isinstance(self.wanted.fault, BreaksDown))
+            raise ToolError('%s: event %d differs after all that is before it, and not after a state and %d packets%s'
+                          % (name, found.event, len(tail.units) - 1, self.also_without()))
+        if self.wanted.event and self.prober.probe(reducer.capture(reducer.units[:-1])):
+            raise ToolError('%s: event %d of the flat capture, %s: what differs after it differs before it, too'
+                          % (name, found.event, reducer.units[-1].name))
+        self.prober.is_plain = self.prober.is_plain or tail.is_tall
+        begun, may_change = reducer.units, isinstance(self.wanted.fault, BreaksDown)
+        reducer.reduce(self.wanted.keep, may_change)
+        was_plain = self.prober.is_plain
+        if not self.prober.settles(reducer.capture(reducer.units)):
+            reducer.units = begun
+        if not was_plain:
+            # A player may differ in its dumps alone, and runs of many candidates show what is read.
+            self.prober.is_plain = True
+            reducer.reduce(self.wanted.keep, may_change)
+        self.prober.fault = self.wanted.fault
         return reducer
+
+    def also_without(self) -> str:
+        """Returns a hint for an error, if features were to be taken away."""
+        return ', or it also differs without ' + ' or '.join(self.wanted.without) if self.wanted.without else ''
 
     def narrow_fault(self, found: Found, name: str) -> None:
         """Lets the fault be no other one than that which was found: a break-down ends in the same way, and a status

@@ -53,7 +53,10 @@ def places_of(unit: Unit, kind: str) -> List[int]:
 
 
 def fields_of(unit: Unit) -> Iterator[Place]:
-    """Yields where the numbers of a packet are."""
+    """Yields where the numbers of a packet are. The data words of a load have none, and are many."""
+    if unit.name == LOAD:
+        yield from ((1, *place) for place in CORNER)
+        return
     for at, kind in enumerate(layout(unit)):
         table = SETTINGS.get(unit.opcode, ()) if kind == 'setting' else FIELDS[kind]
         for shift, width in table:
@@ -68,6 +71,8 @@ def value_of(word: int, shift: int, width: int) -> int:
 def goal_of(unit: Unit, at: int) -> int:
     """Returns the simplest value of the numbers of a word: 128 for colours that a texture is multiplied with, 1 for a
     size whose 0 means the greatest, else 0."""
+    if unit.name == LOAD:
+        return 0
     kind = layout(unit)[at]
     if kind == 'size' and unit.name in (COPY, STORE):
         return 1

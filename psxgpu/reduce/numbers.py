@@ -30,6 +30,9 @@ def cleaned(unit: Unit) -> Unit:
     words, texcoords = list(unit.words), 0
     if unit.name in (COPY, LOAD, STORE):
         words[0] &= 0xE0000000
+    if unit.name == LOAD:
+        words[1] &= USED['corner']
+        return unit.with_words(words)
     for at, kind in enumerate(layout(unit)):
         words[at] &= USED.get(kind, 0xFFFFFFFF)
         if kind == 'color' and at:

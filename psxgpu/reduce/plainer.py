@@ -4,9 +4,10 @@ from __future__ import annotations
 from typing import Iterator, List, Sequence, Tuple
 
 from psxgpu.packets.grammar import (ENVIRONMENT, LINE, LOAD, POLYGON, POLYLINE, QUAD, RAW, RECTANGLE, SEMI, SHADED,
-                                    SIZE_CODE, TEXTURED, data_words, ends_polyline)
+                                    SIZE_CODE, TEXTURED, ends_polyline)
 from psxgpu.packets.parts import polygon_parts, polygon_words
 from psxgpu.reduce.layout import GRAY, WHOLE_AREA
+from psxgpu.reduce.loads import shorter_loads
 from psxgpu.reduce.units import Unit
 from psxgpu.words import vertex
 
@@ -95,15 +96,6 @@ def plainer_rectangles(unit: Unit) -> Iterator[Unit]:
         yield unit.with_words((words[0] & ~(SIZE_CODE << 24) | code << 24, *words[1:]))
     if not opcode & SIZE_CODE and words[-1] & 0x01FF03FF == ONE_CELL:
         yield unit.with_words((words[0] | 0x08 << 24, *words[1:-1]))
-
-
-def shorter_loads(unit: Unit) -> Iterator[Unit]:
-    """Yields a load that is not whole with fewer data words."""
-    count = len(unit.words) - 3
-    if count < data_words(unit.words[2]):
-        for kept in [0] + [count - count // part for part in (2, 4, 8, 64, count) if 0 < part <= count]:
-            if kept < count:
-                yield unit.with_words(unit.words[:3 + kept])
 
 
 def plainer(unit: Unit, is_tall: bool) -> Iterator[Unit]:

@@ -15,7 +15,8 @@ AHEAD = 2       # probes that wait, for each one that runs
 
 
 class Prober:
-    """Two players and a fault. `count` is the number of probes so far."""
+    """Two players and a fault. `count` is the number of probes so far. `is_plain`: whether each is a run of its own."""
+    is_plain = True
 
     def __init__(self, ours: Player, theirs: Player, fault: Fault, seconds: Optional[float] = None,
                  jobs: Optional[int] = None) -> None:
@@ -56,6 +57,10 @@ class Prober:
         finally:
             for _, job in waiting:
                 job.cancel()
+
+    def settles(self, data: bytes) -> bool:
+        """Returns whether a capture that was found shows the fault in the way in which a user plays it."""
+        return True
 
     def close(self) -> None:
         """Ends the threads."""

@@ -52,6 +52,7 @@ class Reducer:
                  tell: Callable[[str], None] = lambda text: None) -> None:
         self.prober, self.is_tall, self.tell = prober, is_tall, tell
         self.units: Units = []
+        self.begun = 0              # the number of units at the start
         self.kept: Optional[Tuple[str, int]] = None
         self.barred = set(barred)
 
@@ -78,8 +79,8 @@ class Reducer:
         if found is None:
             return False
         self.units = list(found)
-        self.tell('%d packets, %d words, %d probes'
-                  % (len(found), sum(unit.size for unit in found), self.prober.count))
+        self.tell('%d of %d packets, %d words, %d probes'
+                  % (len(found), self.begun, sum(unit.size for unit in found), self.prober.count))
         return True
 
     def start(self, tail: Iterable[Placed], dump_at: Callable[[int], bytes]) -> Optional[int]:
@@ -94,7 +95,7 @@ class Reducer:
             state = state_units(first.registers, first.controls)
             units = (memory_units(dump_at(first.events)) if first.events else []) + state + [it.unit for it in window]
             if self.is_allowed(units) and self.prober.probe(self.capture(units)):
-                self.units = units
+                self.units, self.begun = units, len(units)
                 return count
             if count == len(placed) - 1:
                 return None

@@ -17,6 +17,7 @@ from psxgpu.reduce.units import Unit
 from psxgpu.vram import shown
 
 MOST_LINES = 10             # of the report
+MOST_WORDS = 1000           # more than these are remarked
 MOST_TEXT = 110             # characters of a line
 MARGIN, PIXELS, MOST_SCALE = 4, 320, 16     # of the pictures: cells around, width, pixels of a cell
 RED = b'\x1f\0'
@@ -76,8 +77,9 @@ def shortened(text: str) -> str:
 
 def report_lines(found: Reduced) -> List[str]:
     """Returns at most ten lines: what is drawn, which cells differ, how."""
-    lines = [found.headline, '%s, %s, %s' % (counted(len(found.units), 'packet'), counted(found.words, 'word'),
-                                             counted(len(found.data), 'byte'))]
+    large = ', which is large: nothing smaller shows it' if found.words > MOST_WORDS else ''
+    lines = [found.headline, '%s, %s, %s%s' % (counted(len(found.units), 'packet'), counted(found.words, 'word'),
+                                               counted(len(found.data), 'byte'), large)]
     texts = [shortened('  ' + text) for _, text in described(found.units, found.is_tall)]
     most = MOST_LINES - len(lines) - len(found.differs)
     if len(texts) > most:

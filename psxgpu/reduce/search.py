@@ -26,7 +26,7 @@ def step_of_event(steps: Steps, name: str, event: int) -> int:
     for k in range(1, steps.count + 1):
         if steps.events[k] >= event:
             return k
-    raise ToolError('%s: it has %s' % (name, counted(steps.events[-1], 'event')))
+    raise ToolError('%s: its flat capture has %s' % (name, counted(steps.events[-1], 'event')))
 
 
 class Search:
@@ -35,6 +35,7 @@ class Search:
     def __init__(self, prober: Prober, ignore: List[str], event: Optional[int], program: Optional[str],
                  tell: Callable[[str], None] = lambda text: None) -> None:
         self.prober, self.ignore, self.event, self.program, self.tell = prober, ignore, event, program, tell
+        self.size = 1               # of the flat capture in bytes
 
     def steps(self, path: str, name: str) -> Steps:
         """Returns the steps of a flat capture, ignored packets replaced by loads."""
@@ -43,7 +44,7 @@ class Search:
 
     def shows(self, path: str) -> bool:
         """Returns whether a flat capture shows the fault."""
-        self.tell('looking for the packet: the first %d bytes' % os.path.getsize(path))
+        self.tell('looking for the packet in %d %% of the capture' % min(100, 100 * os.path.getsize(path) // self.size))
         if self.ignore:
             with self.steps(path, path) as steps:
                 return self.prober.look(steps.prefixes.data(steps.count))
@@ -54,6 +55,7 @@ class Search:
     def found(self, flat: str, name: str) -> Iterator[Optional[Found]]:
         """Yields the first packet of a flat capture that shows the fault, or that of the given event; None if there is
         no fault."""
+        self.size = os.path.getsize(flat)
         with beginning(flat, name, self.shows, self.event or FIRST_LOOK, grows=not self.event) as (path, _):
             with self.steps(path, name) as steps:
                 k = self.step(steps, name)

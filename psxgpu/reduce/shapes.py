@@ -103,6 +103,21 @@ def moved_target(units: Units, registers: Registers) -> Iterator[Units]:
         yield loads + [shifted(last, dx - ox, dy - oy)]
 
 
+def moved_copy(units: Units) -> Iterator[Units]:
+    """Yields the units with the last packet's source at the corner of video memory, or source and target both nearer
+    to it by as much, and the loads of the source moved along."""
+    last = units[-1]
+    if last.name != COPY:
+        return
+    (x, y), (to_x, to_y) = ((word & 0x3FF, word >> 16 & 0x3FF) for word in last.words[1:3])
+    box = (x, y, *cells_of(last.words[3]))
+    near = min(x, to_x), min(y, to_y)
+    for (dx, dy), moves_target in (((x, y), False), (near, True), ((x & ~15, y & ~15), False)):
+        loads = [moved_load(unit, dx, dy) if is_in(unit, box) else unit for unit in units[:-1]]
+        target = corner(to_x - dx, to_y - dy) if moves_target else last.words[2]
+        yield loads + [last.with_words((last.words[0], corner(x - dx, y - dy), target, last.words[3]))]
+
+
 def fewer_cells(size: int) -> Iterator[Tuple[int, int]]:
     """Yields smaller widths and heights: half, three quarters, one less."""
     w, h = cells_of(size)

@@ -4,10 +4,10 @@ from __future__ import annotations
 from typing import Callable, Iterable, Iterator, List, Protocol
 
 from psxgpu.packets.grammar import LOAD
-from psxgpu.reduce.loads import halves, plainer_cells, smaller_boxes
+from psxgpu.reduce.loads import apart_loads, halves, is_open, plainer_cells, smaller_boxes
 from psxgpu.reduce.numbers import cleaned, fewer_reads, smaller_numbers
 from psxgpu.reduce.plainer import plainer
-from psxgpu.reduce.shapes import at_zero, halved, moved_target, moved_texture, together
+from psxgpu.reduce.shapes import at_zero, halved, moved_copy, moved_target, moved_texture, together
 from psxgpu.reduce.units import Registers, Unit
 
 Units = List[Unit]
@@ -57,7 +57,7 @@ class Simplifier:
         """Makes a load smaller, or two of it if these have fewer words. Returns how many it is now."""
         self.unit(at, smaller_boxes)
         unit = self.units[at]
-        if unit.size < MOST_WHOLE or at == len(self.units) - 1:
+        if unit.size < MOST_WHOLE or at == len(self.units) - 1 or is_open(unit):
             return 1
         before = self.units
         self.reducer.units = self.units[:at] + halves(unit) + self.units[at + 1:]
@@ -71,7 +71,7 @@ class Simplifier:
         """Simplifies a unit. Returns how many units it is now."""
         unit = self.units[at]
         if unit.records:
-            self.unit(at, fewer_reads)
+            self.unit(at, fewer_reads, apart_loads)
         if not unit.is_packet:
             return 1
         self.unit(at, lambda it: [cleaned(it)], lambda it: plainer(it, self.reducer.is_tall))
@@ -97,6 +97,8 @@ class Simplifier:
             pass
         if last:
             self.unit(at, lambda it: plainer(it, self.reducer.is_tall), at_zero, halved)
+        if last:
+            self.reducer.take(moved_copy(self.units))
         for move in (moved_target, moved_texture) if last and self.units[-1].is_packet else ():
             self.reducer.take(move(self.units, self.reducer.registers(self.units)))
 

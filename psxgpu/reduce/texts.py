@@ -21,7 +21,7 @@ def described(units: Sequence[Unit], is_tall: bool) -> Iterator[Tuple[Unit, str]
     for unit in units:
         if unit.name == CONTROL:
             splitter.control(unit.words[0])
-            yield unit, control(unit.words[0])
+            yield unit, control(unit.words[0], splitter.rows)
         elif unit.records:
             for kind, _, words in unit.records:
                 for _ in splitter.push(words) if kind == GP0 else ():
@@ -31,7 +31,7 @@ def described(units: Sequence[Unit], is_tall: bool) -> Iterator[Tuple[Unit, str]
         else:
             found = list(splitter.push(unit.words))[:1]
             yield unit, '%s: %s' % (unit.name, '; '.join(
-                text for name, packet, _ in found for text in fields(name, packet, splitter.registers)))
+                text for name, packet, _ in found for text in fields(name, packet, splitter.registers, splitter.rows)))
 
 
 def log_lines(units: Sequence[Unit], is_tall: bool) -> Iterator[str]:

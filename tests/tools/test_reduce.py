@@ -2,6 +2,7 @@
 from __future__ import annotations
 
 import io
+import re
 from typing import List, Optional, Tuple
 
 from tests import support
@@ -114,6 +115,21 @@ class Faults(Reducing):
         found = self.reduce(capture, 'status', WordsDiffer())
         self.assertEqual(self.words(found)[-1], 0xE6000001)
         self.assertEqual(len(found.units), 2, report_lines(found))
+
+    def test_what_is_said_meanwhile(self) -> None:
+        """The share of the capture that is searched, and how many of the packets are left."""
+        said: List[str] = []
+        capture = scene().gp0(c.rectangle(0x80FF40, 30, 20, 40, 30, semi=True), [0] * 5000)
+        path = self.write('a.capture', capture.bytes())
+        with Job(SmallPlayer(), SmallPlayer('blend'), Wanted(DumpsDiffer(), []), jobs=1, tell=said.append) as job:
+            job.result(path, 'a.capture')
+        share = re.fullmatch(r'looking for the packet in (\d+) % of the capture', said[0])
+        self.assertTrue(share and 0 < int(share[1]) < 100, said[0])
+        numbers = [re.fullmatch(r'(\d+) of (\d+) packets, \d+ words, \d+ probes', line) for line in said[1:]]
+        self.assertTrue(numbers and all(numbers), said)
+        counts = [(int(found[1]), int(found[2])) for found in numbers if found]
+        self.assertEqual({whole for _, whole in counts}, {counts[0][1]})
+        self.assertTrue(all(0 < left <= whole for left, whole in counts), counts)
 
     def test_none(self) -> None:
         path = self.write('a.capture', scene().bytes())

@@ -69,6 +69,20 @@ class Command(support.InFolder):
         self.assertEqual([line.split()[1] for line in played.stdout.splitlines()], [b'environment', b'line'])
         self.assertEqual(self.reduce('%s vram' % support.PLAYER, '--crash'), (0, ['no difference'], ''))
 
+    def test_event(self) -> None:
+        """The first fill differs, in cells 001Fh; the second one changes nothing."""
+        path = self.write('fills.capture', c.Capture().gp0(c.fill(0xF8, 0, 0, 16, 1), c.fill(0, 64, 64, 16, 1)).bytes())
+        theirs = '%s vram | tr "\\037" "\\036"' % support.PLAYER
+        seen = {}
+        for event in '3', '6', '7':
+            done = support.run_tool('reduce', path, '%s vram' % support.PLAYER, theirs, '--event', event, cwd=self.folder)
+            seen[event] = done.returncode, (done.stderr or done.stdout).splitlines()[0]
+        self.assertEqual(seen, {
+            '3': (1, path + ', event 3 of the flat capture: fill'),
+            '6': (2, 'psxgpu reduce: %s: event 6 of the flat capture, fill: what differs after it differs before it, too'
+                     % path),
+            '7': (2, 'psxgpu reduce: %s: its flat capture has 6 events' % path)})
+
     def test_ignore(self) -> None:
         self.assertEqual(self.reduce('%s vram' % support.PLAYER, '--ignore', 'line', '--ignore', 'gouraud'),
                          (0, ['no difference'], ''))

@@ -1,0 +1,131 @@
+"""Kinds of differences, and the folder that keeps them: NAME.json, and the capture, log, script and picture of each."""
+from __future__ import annotations
+
+import json
+import os
+from dataclasses import asdict, dataclass, field
+from typing import Any, Dict, FrozenSet, List, Optional, Sequence
+
+from psxgpu.fuzz.conditions import EARLIER, facts_of, label
+from psxgpu.fuzz.rules import Samples
+from psxgpu.output import Content, Folder, write_several
+from psxgpu.packets.deciders import Decision, decision
+from psxgpu.players.bench import Experiment
+from psxgpu.players.looks import OUTSIDE
+from psxgpu.reduce.features import FEATURES, name_of
+
+KINDS = 'kinds'
+KEPT = 10                   # batches after which a worker keeps what it has seen
+MOST_WORDS = 1000           # of a capture; more are remarked
+Facts = FrozenSet[str]
+
+
+@dataclass
+class Kind:
+    """A kind: the packet's name, what it is for people, how players differ, the facts that it needs, and those of the
+    experiment with which it was found; the words of its capture, the lines of its report, and when it was found."""
+    name: str
+    label: str
+    look: str
+    needs: List[str]
+    seed: List[str]
+    words: int = 0
+    packets: List[str] = field(default_factory=list)
+    lines: List[str] = field(default_factory=list)
+    tests: List[str] = field(default_factory=list)
+    found: Dict[str, float] = field(default_factory=dict)
+
+    @property
+    def rule(self) -> Facts:
+        """The facts that it needs."""
+        return frozenset(self.needs)
+
+    @property
+    def decision(self) -> Decision:
+        """Who decides."""
+        return decision(self.name, self.needs)
+
+    @property
+    def sentence(self) -> str:
+        """What differs, and when, in one sentence."""
+        settings = [fact for fact in self.needs if fact in FEATURES or fact == EARLIER]
+        numbers = [fact for fact in self.needs if fact not in settings]
+        text = self.label + (' with ' + ', '.join(settings) if settings else '')
+        return '%s%s: %s' % (text, ', if ' + ' and '.join(numbers) if numbers else '', self.look)
+
+    def explains(self, name: str, facts: Facts, look: str) -> bool:
+        """Returns whether a difference is of this kind."""
+        return self.name == name and self.rule <= facts and (self.look == look or OUTSIDE == look)
+
+
+def kind_of(experiment: Experiment, look: str, needs: Facts) -> Kind:
+    """Returns a kind that was found with an experiment."""
+    last = experiment[-1]
+    packets = [' '.join('%08x' % word for word in packet[:12]) + (' ..' if len(packet) > 12 else '')
+               for packet in experiment]
+    return Kind(name_of(last), label(last), look, sorted(needs), sorted(facts_of(experiment)),
+                sum(map(len, experiment)), packets)
+
+
+class Store:
+    """A folder of kinds. Several workers may use it: each takes what the others have found."""
+
+    def __init__(self, path: str, maker: str) -> None:
+        self.folder = Folder(path, maker, path)
+        self.kinds: Dict[str, Kind] = {}
+        self.folder.make(KINDS)
+        self.refresh()
+
+    def path(self, name: str) -> str:
+        """Returns the path of a file."""
+        return os.path.join(self.folder.path, name)
+
+    def refresh(self) -> None:
+        """Takes the kinds that other workers have found."""
+        for name in os.listdir(self.path(KINDS)):
+            key, ending = os.path.splitext(name)
+            if ending == '.json' and key not in self.kinds:
+                self.kinds[key] = read_kind(self.path(os.path.join(KINDS, name)))
+
+    def put(self, key: str, kind: Kind, files: Sequence[Content] = ()) -> None:
+        """Keeps a kind, its other files first."""
+        self.kinds[key] = kind
+        text = Content(self.path('%s/%s.json' % (KINDS, key)), as_json(asdict(kind)), is_text=True)
+        write_several([*files, text])
+
+    def counts(self) -> List[Dict[str, Any]]:
+        """Returns the counts of all workers."""
+        out = []
+        for name in sorted(os.listdir(self.folder.path)):
+            if name.startswith('worker-') and name.endswith('.json'):
+                with open(self.path(name), encoding='ascii') as file:
+                    out.append(json.load(file))
+        return out
+
+    def keep(self, worker: int, counts: Dict[str, Any], samples: Optional[Samples]) -> None:
+        """Keeps the counts of a worker, and what it has seen, if that is given."""
+        if samples is not None:
+            text = json.dumps(samples.as_list()).encode()
+            write_several([Content(self.path('samples-%d.json' % worker), text, is_text=True)])
+        write_several([Content(self.path('worker-%d.json' % worker), as_json(counts), is_text=True)])
+
+
+def as_json(value: object) -> bytes:
+    """Returns a value as a file."""
+    return (json.dumps(value, indent=1) + '\n').encode()
+
+
+def read_kind(path: str) -> Kind:
+    """Reads a kind."""
+    with open(path, encoding='ascii') as file:
+        return Kind(**json.load(file))
+
+
+def read_samples(store: Store) -> Samples:
+    """Returns what all workers have seen."""
+    out = Samples()
+    for name in sorted(os.listdir(store.folder.path)):
+        if name.startswith('samples-') and name.endswith('.json'):
+            with open(store.path(name), encoding='ascii') as file:
+                out.take(json.load(file))
+    return out

@@ -1,0 +1,204 @@
+"""The parts of `fuzz`, and the hunt with wrong players that are functions of ours."""
+import os
+import random
+import re
+import unittest
+from unittest import mock
+
+from psxgpu.errors import ToolError
+from psxgpu.fuzz.causes import causes
+from psxgpu.fuzz.conditions import facts_of
+from psxgpu.fuzz.deciding import of_class, of_random
+from psxgpu.fuzz.hunt import Hunt, ground_of
+from psxgpu.fuzz.kinds import Kind, Store
+from psxgpu.fuzz.making import Maker, packed
+from psxgpu.fuzz.rules import Samples
+from psxgpu.packets import deciders
+from psxgpu.packets.generated import CLASSES
+from psxgpu.players.bench import LOST, Bench, DumpBench
+from psxgpu.players.looks import BIT_15, COLOURS, EDGES, NOTHING, STEP
+from psxgpu.players.named import Done, Player, player_of
+from tests import support
+from tests.tools import wrong_players as wrong
+
+FLIPPED = packed([(0xE1001000,), (0x65000000, 0, 0, 0x00010004)])
+FILL = packed([(0x02FFFFFF, 0, 0x00020010)])
+RECTANGLE = packed([(0x60FFFFFF, 0, 0x00020003)])
+
+
+def kind(name, needs, look=EDGES, words=5):
+    return Kind(name, name, look, sorted(needs), [], words)
+
+
+class Parts(unittest.TestCase):
+    def test_facts(self):
+        self.assertLessEqual({'x-flip', 'an even U', 'texture', 'U below 0'}, facts_of(FLIPPED))
+        self.assertNotIn('y-flip', facts_of(FLIPPED))
+        self.assertIn('an earlier packet', facts_of((*FLIPPED, FLIPPED[-1])))
+
+    def test_making(self):
+        """Whatever is made has six settings, then packets that draw."""
+        maker = Maker(random.Random(1))
+        for _ in range(300):
+            one = maker.one()
+            self.assertEqual([packet[0] >> 24 for packet in one[:6]], list(range(0xE1, 0xE7)))
+            self.assertGreater(len(one), 6)
+            facts_of(one)
+            maker.keep(one)
+
+    def test_rules(self):
+        """Half of the flipped ones with an even U differ, and a few of the others: the rule has both facts, and no
+        other."""
+        samples, r = Samples(), random.Random(2)
+        for _ in range(2000):
+            facts = frozenset(fact for fact in ('flip', 'even', 'dither', 'wide') if r.random() < 0.5)
+            differs = {'flip', 'even'} <= facts and r.random() < 0.5
+            samples.add('rectangle', facts, [COLOURS] if differs else [])
+        seed = frozenset(['flip', 'even', 'dither', 'wide'])
+        self.assertEqual(samples.rule('rectangle', COLOURS, seed), {'flip', 'even'})
+        again = Samples()
+        again.take(samples.as_list())
+        self.assertEqual(again.rule('rectangle', COLOURS, seed), {'flip', 'even'})
+
+    def test_causes(self):
+        """A kind that needs more than another one is a case of it; so is the same condition in another packet. One
+        without a condition explains no other look."""
+        kinds = {'a': kind('rectangle', ['x-flip', 'an even U']),
+                 'b': kind('rectangle', ['x-flip', 'an even U', 'dither']), 'c': kind('line', ['offset']),
+                 'd': kind('polygon', ['offset']), 'e': kind('polygon', []),
+                 'f': kind('polygon', ['wider than 1023'], NOTHING)}
+        self.assertEqual(sorted(sorted(cause.keys) for cause in causes(kinds)), [['a', 'b'], ['c', 'd'], ['e'], ['f']])
+
+    def test_sections(self):
+        """Each decision names a section of docs/MACHINE.md."""
+        with open(os.path.join(support.TOP, 'docs', 'MACHINE.md'), encoding='utf-8') as file:
+            sections = re.findall('^## (.*)', file.read(), re.M)
+        for _, who, section, _ in deciders.RULES:
+            self.assertTrue(any(name.startswith(section) for name in sections), section)
+            self.assertIn(who, (deciders.SPX, deciders.OWN))
+
+    def test_deciders(self):
+        self.assertEqual(deciders.decision('rectangle', ['x-flip', 'texture']).who, deciders.SPX)
+        self.assertEqual(deciders.decision('rectangle', ['x-flip', 'an even U']).who, deciders.OWN)
+        self.assertEqual(deciders.decision('polygon', ['wider than 1023']).section, 'Where a primitive draws')
+        self.assertEqual(of_class('quad shaded textured').section, 'Polygons')
+        self.assertEqual([of_random(name).section for name in CLASSES][:3],
+                         ['Fills', 'Copies, loads and stores', 'Copies, loads and stores'])
+
+
+class Same(Player):
+    """psxgpu_tool, some modes of which end with an error."""
+
+    def __init__(self, *missing):
+        self.own, self.missing = player_of(support.PLAYER), missing
+
+    def run(self, mode, data, seconds=None):
+        return Done(1, b'', b'') if mode in self.missing else self.own.run(mode, data, seconds)
+
+
+@support.needs_player
+class Judging(unittest.TestCase):
+    def setUp(self):
+        self.ours = player_of(support.PLAYER)
+
+    def test_looks(self):
+        """The look of a difference, and the next experiment that does not see it."""
+        faults = {
+            NOTHING: lambda name, words, registers: [0] if name == 'rectangle' else words,
+            STEP: lambda name, words, registers: [words[0] - 8, *words[1:]] if name == 'rectangle' else words,
+            BIT_15: lambda name, words, registers: (wrong.under(0xE6, 1, words, registers) if name == 'rectangle'
+                                                    else words)}
+        for look, fault in faults.items():
+            verdicts = Bench(self.ours, wrong.Wrong(fault), ground_of(1)).judge([RECTANGLE, FILL, RECTANGLE])
+            self.assertEqual([verdict.looks for verdict in verdicts], [{look}, set(), {look}])
+
+    def test_dumps_alone(self):
+        """A player that knows `vram` alone is judged by dumps."""
+        fault = wrong.Wrong(lambda name, words, registers: [words[0] - 8, *words[1:]] if name == 'rectangle' else words)
+        verdicts = DumpBench(self.ours, fault, ground_of(1)).judge([FILL, RECTANGLE])
+        self.assertEqual([verdict.looks for verdict in verdicts], [set(), {STEP}])
+        self.assertEqual(DumpBench(self.ours, Same('play'), ()).judge([FILL] * 3)[2].looks, set())
+
+    def test_break_down(self):
+        line = packed([(0x48FFFFFF, 0, 5, 0x00050005, 0x50005, 0x50000, 0x55555555)])
+        bench = Bench(self.ours, wrong.FAULTS['breaks_at_polylines'], ground_of(1))
+        self.assertEqual(bench.judge([FILL, line, RECTANGLE])[1], LOST)
+
+
+@support.needs_player
+class Hunting(support.InFolder):
+    def hunted(self, fault, first):
+        """Hunts with the experiment `first` in the first batch, until a kind is there."""
+        store = Store(self.path(fault), 'psxgpu fuzz')
+        hunt = Hunt(Bench(player_of(support.PLAYER), wrong.FAULTS[fault], ground_of(1)), store, 1)
+        hunt.batch = lambda: iter([first, FILL, RECTANGLE])
+        hunt.step()
+        hunt.save()
+        return store
+
+    def test_window(self):
+        """The window's mask Y loses bit 4: the kind names the window, and is small. A second store reads it."""
+        sprite = (0x65000000, 0, 0xA000, 0x00200010)
+        store = self.hunted('window_without_bit_4', packed([(0xE1000108,), (0xE2000200,), sprite]))
+        (key, found), = store.kinds.items()
+        self.assertTrue({'window', 'a window mask Y from 16'} & found.rule, found)
+        self.assertLessEqual(found.words, 30)
+        self.assertEqual(found.decision.who, deciders.SPX)
+        again = Store(self.path('window_without_bit_4'), 'psxgpu fuzz')
+        self.assertEqual(again.kinds[key], found)
+        self.assertEqual(again.counts()[0]['counts']['captures'], 3)
+
+    def test_other_bytes(self):
+        """A player that writes other bytes at the end of a reduction does not end the hunt."""
+        quad = (0x2AFFFFFF, 0, 20, 20 << 16, 20 << 16 | 20)
+        with mock.patch('psxgpu.fuzz.reducing.reduced', side_effect=ToolError('other bytes')):
+            store = self.hunted('sum_for_difference', packed([(0xE1000040,), quad]))
+        self.assertEqual((store.kinds, store.counts()[0]['counts']['not shown alone']), ({}, 1))
+
+    def test_blending(self):
+        quad = (0x2AFFFFFF, 0, 20, 20 << 16, 20 << 16 | 20)
+        store = self.hunted('sum_for_difference', packed([(0xE1000040,), quad]))
+        (found,) = store.kinds.values()
+        self.assertEqual((found.name, found.label), ('polygon', 'quad'))
+        self.assertLessEqual(found.words, 8)
+
+
+@support.needs_player
+class Commands(support.InFolder):
+    def fuzz(self, *words):
+        return support.run_tool('fuzz', *words)
+
+    def test_a_run_and_its_folder(self):
+        """A run, a second one that continues, the table, two folders as one, and folders that are not ours."""
+        folder, theirs = self.path('found'), 'python3 %s' % os.path.join(support.TOP, 'examples', 'no_dither.py')
+        words = ['--ours', support.PLAYER, '--jobs', '1', '--captures', '48', '--no-suite', '-o', folder]
+        done = self.fuzz(theirs, *words)
+        self.assertEqual(done.returncode, 1, done.stderr)
+        self.assertLessEqual({'index.html', 'kinds.txt', 'kinds'}, set(os.listdir(folder)))
+        count = int(re.match(r'(\d+) kind', done.stdout)[1])
+        again = self.fuzz(theirs, *words, '--seed', '2')
+        self.assertGreaterEqual(int(re.match(r'(\d+) kind', again.stdout)[1]), count)
+        self.assertEqual(self.fuzz('--table', folder).stdout, again.stdout)
+        joined = self.fuzz('--join', folder, folder, '-o', self.path('joined'))
+        self.assertEqual(joined.returncode, 1, joined.stderr)
+        self.assertEqual(joined.stdout.split(' ')[0], again.stdout.split(' ')[0])
+        often = [[int(line.split()[0]) for line in done.stdout.splitlines()[1::3]] for done in (again, joined)]
+        self.assertEqual(often[1], [2 * count for count in often[0]])
+        self.assertIn('not a folder of psxgpu fuzz', self.fuzz('--table', self.folder).stderr)
+
+    def test_nothing_differs(self):
+        words = ['--ours', support.PLAYER, '--jobs', '1', '--captures', '48', '--no-suite']
+        done = self.fuzz(support.PLAYER, *words, '-o', self.path('found'))
+        self.assertEqual((done.returncode, done.stdout[:8]), (0, '0 kinds:'), done.stderr)
+
+    def test_trouble(self):
+        self.write('mine.txt', 'a file of a user')
+        for words, reason in (([], 'name a player and a folder'),
+                              ([support.PLAYER, '-o', self.folder], 'did not write'),
+                              (['false', '-o', self.path('new')], 'no dump')):
+            done = self.fuzz('--ours', support.PLAYER, *words)
+            self.assertEqual(done.returncode, 2)
+            self.assertIn(reason, done.stderr)
+        self.assertEqual(self.read('mine.txt'), b'a file of a user')
+
+
