@@ -75,3 +75,5 @@ fault('the flips are exchanged', 'rectangles', flips=lambda m: M.flips(m)[::-1])
 fault('a flipped U has its lowest bit set', 'rectangles',
       texture_place=lambda m, u, v, i, j: M.texture_place(m, u | m.flips()[0], v, i, j))
 fault('rectangles are dithered', 'rectangles', dithers_rectangles=lambda m: True)
+fault('the flip in Y is lost from the seventeenth column on', 'rectangles',
+      texture_place=lambda m, u, v, i, j: M.texture_place(m, u, v, i, -j if i > 15 and m.flips()[1] else j))

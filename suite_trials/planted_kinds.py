@@ -95,3 +95,5 @@ fault_in('a fill of 511 rows is cut by the drawing area', 'fills', shapes('fill'
              old(m, x, y, value) if m.rows_filled != 511 or m.is_inside_area(x, y) else None))
 fault_in('GP1(02h) drops what is unfinished', 'cuts', every, 'gp1',
          lambda m, old, word: m.start_clean() if word >> 24 == 2 else old(m, word))
+fault_in('4 bits: a flipped rectangle of odd width loses its last column', 'rectangles', shapes('given size'),
+         'rectangle_size', in_four_bits(lambda m, old, size: (old(m, size)[0] & ~m.flips()[0], old(m, size)[1])))

@@ -25,6 +25,18 @@ def raw_dithered(m: Machine, x: int, y: int, color: Any, texel: int | None, firs
     M.pixel(m, x, y, color, texel, first, dithered)
 
 
+def halved_first(m: Machine, x: int, y: int, color: Any, texel: int | None, first: int, dithered: bool) -> None:
+    """Adds the half of a cell to a texel whose channels were halved before they are multiplied."""
+    if texel is not None and not first >> 24 & 1 and m.e1 >> 5 & 3 == 0 and m.blends(first, texel):
+        half = texel >> 1 & 0x3DEF
+        tones = [M.tone(m, M.modulated(m, half >> 5 * k & 31, color[k])) for k in range(3)]
+        back = m.get(x, y)
+        mean = sum(min(31, (back >> 5 * k & 31) // 2 + tone) << 5 * k for k, tone in enumerate(tones))
+        m.plot(x, y, mean | texel & 0x8000)
+        return
+    M.pixel(m, x, y, color, texel, first, dithered)
+
+
 # Polygons and lines.
 fault('cells on a right edge are drawn, those on a left one not', 'polygons',
       is_in=lambda m, v, p, q: v > 0 or v == 0 and (q.y > p.y or q.y == p.y and q.x > p.x))
@@ -71,3 +83,8 @@ fault('bit 15 is forced before the blending looks', 'mask blending',
 fault('the mask test looks at what is drawn', 'mask', is_kept=lambda m, x, y: False)
 fault('bit 15 is not forced', 'mask', forced=lambda m: 0)
 fault('a forced bit 15 keeps cells, too', 'mask', is_kept=lambda m, x, y: bool(m.mask & 3 and m.get(x, y) & 0x8000))
+fault('a line steps by a part of twelve bits', 'lines',
+      along=lambda m, i, j, k, n: ((i << 12) + 2048 + k * int((j - i) * 4096 / n)) >> 12 if n else i)
+fault('colours of polygons are divided by a reciprocal of twelve bits', 'gouraud',
+      mean=lambda m, t, a: t * (4096 // a) // 4096)
+fault('the texel of B/2 + F/2 is halved before it is multiplied', 'blending', pixel=halved_first)

@@ -5,10 +5,12 @@ import base64
 from html import escape
 from typing import Callable, Iterable, List, Sequence
 
+from psxgpu import __version__
 from psxgpu.conformance.judging import DIFFERS, FAILED, PASSED, TROUBLE, Verdict, cell_of
+from psxgpu.conformance.released import SUITE
 from psxgpu.conformance.report import counts
 from psxgpu.conformance.subject import subject_lines
-from psxgpu.conformance.suite import WIDTH, Box, Picture, Place
+from psxgpu.conformance.suite import WIDTH, Box, Picture, Place, Test
 from psxgpu.image import Image, png
 from psxgpu.vram import wide
 
@@ -16,13 +18,23 @@ MOST_SHOWN = 48             # cells of a picture, each way
 SCALE, MOST_PIXELS = 8, 320
 SAME, OTHER = b'\x20\x20\x20', b'\xff\x40\x40'
 ORDER = (FAILED, TROUBLE, DIFFERS)
-STYLE = '''body { font: 15px/1.5 system-ui, sans-serif; max-width: 70em; margin: 2em auto; padding: 0 1em }
-table { border-collapse: collapse }
-td, th { padding: .1em .8em; text-align: right; border-bottom: 1px solid #ccc }
+STYLE = ''':root { color-scheme: light dark; --line: light-dark(#ccc, #444) }
+body { font: 15px/1.5 system-ui, sans-serif; max-width: 70em; margin: 0 auto; padding: 1em; overflow-wrap: anywhere }
+.wide { overflow-x: auto } table { border-collapse: collapse; overflow-wrap: normal }
+td, th { padding: .1em .8em; text-align: right; border-bottom: 1px solid var(--line) }
 td:first-child, th:first-child { text-align: left }
-figure { display: inline-block; margin: 0 1em 0 0 } img { image-rendering: pixelated; border: 1px solid #888 }
-section { border-top: 1px solid #ccc; padding: .5em 0 } .failed, .error { color: #b00020 } .differs { color: #8a5a00 }
-code { background: #f2f2f2; padding: 0 .2em; overflow-wrap: anywhere }'''
+figure { display: inline-block; margin: 0 1em .5em 0; max-width: 100% }
+img { max-width: 100%; height: auto; image-rendering: pixelated; border: 1px solid #888 }
+section { border-top: 1px solid var(--line); padding: .5em 0 }
+.failed, .error { color: light-dark(#b00020, #ff8a80) } .differs { color: light-dark(#8a5a00, #e0b050) }
+code { background: light-dark(#f2f2f2, #2d323c); padding: 0 .2em } ul { padding-left: 1.2em }'''
+PAGE = '''<!doctype html>
+<html lang="en"><meta charset="utf-8"><meta name="viewport" content="width=device-width"><title>%s</title><style>%s</style>
+<h1>%s</h1><p>Suite %d of psxgpu %s.</p><p>%s</p>
+<div class="wide"><table><tr>%s</tr>%s</table></div>%s
+%s
+</html>
+'''
 ABOUT = ('<b>failed</b>: psx-spx decides. <b>differs</b>: a rule of this project decides, and a player that differs may be '
          'right. <b>not taken</b>: the player does not take what the test needs.')
 
@@ -84,13 +96,20 @@ def pictures(verdict: Verdict) -> str:
     return '<div>%s</div><p>the shown picture</p>' % ''.join(figure(*one) for one in images)
 
 
+def capture(test: Test) -> str:
+    """Returns a link that saves the capture of a test."""
+    name = test.full_name.replace('/', '-') + '.capture'
+    return '<a download="%s" href="data:application/octet-stream;base64,%s">%s</a>' % (
+        escape(name), base64.b64encode(test.data).decode(), escape(name))
+
+
 def section(verdict: Verdict) -> str:
     """Returns what the page has of a test."""
     test = verdict.test
     packets = ''.join('<li><code>%s</code></li>' % escape(line) for line in subject_lines(test))
     paragraphs = [escape(test.says), 'psx-spx: %s. Decided by: %s. Expected values: by %s.' % (
         escape(test.section), test.decides, test.worked), escape(verdict.reason)]
-    text = ''.join('<p>%s</p>' % one for one in paragraphs)
+    text = ''.join('<p>%s</p>' % one for one in [*paragraphs, 'The test as a file: ' + capture(test)])
     return '<section id="%s"><h3><span class="%s">%s</span> %s</h3>%s%s%s%s</section>' % (
         escape(test.full_name), verdict.kind, verdict.kind, escape(test.full_name), text, cells(verdict),
         pictures(verdict), '<ul>%s</ul>' % packets)
@@ -102,13 +121,11 @@ def not_passed(verdicts: Iterable[Verdict]) -> List[Verdict]:
 
 
 def page(verdicts: Sequence[Verdict], player: str) -> str:
-    """Returns the page."""
+    """Returns the page. `player`: its command."""
     head, *rows = counts(verdicts)
     body = ''.join('<tr>%s</tr>' % ''.join('<td>%s</td>' % escape(one) for one in row) for row in rows)
     title = 'Conformance: ' + escape(player)
     shown = not_passed(verdicts)
     passed = '' if shown or not any(one.kind == PASSED for one in verdicts) else '<p>No test failed or differs.</p>'
-    return ('<!doctype html>\n<html lang="en"><meta charset="utf-8"><title>%s</title><style>%s</style>\n'
-            '<h1>%s</h1><p>%s</p>\n<table><tr>%s</tr>%s</table>%s\n%s\n</html>\n'
-            % (title, STYLE, title, ABOUT, ''.join('<th>%s</th>' % escape(one) for one in head), body, passed,
-               '\n'.join(map(section, shown))))
+    columns = ''.join('<th>%s</th>' % escape(one) for one in head)
+    return PAGE % (title, STYLE, title, SUITE, __version__, ABOUT, columns, body, passed, '\n'.join(map(section, shown)))

@@ -26,11 +26,12 @@ def packet_line(name: str, words: Sequence[int], registers: Registers, rows: int
     return '%s %s' % (name, words_text(words)) + (' | ' + '; '.join(texts) if texts else '')
 
 
-def record_line(kind: int, count: int, words: Sequence[int]) -> str:
-    """Returns a record that is not of GP0: its name, its words, and what a control word does."""
+def record_line(kind: int, count: int, words: Sequence[int], rows: int) -> str:
+    """Returns a record that is not of GP0: its name, its words, and what a control word does. `rows`: of video
+    memory."""
     channel = ['%d' % count] if kind in (DMA, BEGIN) or not words else []
     line = ' '.join([KINDS[kind].lower(), *channel, *([words_text(words)] if words else [])])
-    return line + (' | ' + control(words[0]) if kind == GP1 else '')
+    return line + (' | ' + control(words[0], rows) if kind == GP1 else '')
 
 
 def completed(splitter: Splitter, words: Sequence[int], rows: int) -> Iterator[str]:
@@ -49,7 +50,7 @@ def lines_of(test: Test) -> Iterator[str]:
         if kind == GP1:
             splitter.control(words[0])
         if kind not in (READ, STAT):
-            yield record_line(kind, count, words)
+            yield record_line(kind, count, words, test.rows)
 
 
 def subject_lines(test: Test) -> List[str]:

@@ -4,6 +4,7 @@ from __future__ import annotations
 from collections.abc import Callable
 
 from psxgpu.capture import draw_mode, line, mask_setting, polygon, rectangle, texture_page
+from psxgpu.conformance.packets import RECTANGLES, Kind, marks
 from psxgpu.conformance.suite import FORMULA, OWN, PSX_SPX, Chapter, Draft, cell
 
 CHAPTER = Chapter('blending', 'Semi-transparency (GP0(E1h) Draw Mode, bits 5 and 6)')
@@ -157,3 +158,13 @@ def modulated_first(t: Draft) -> None:
     t.before(draw_mode(texture_page(512, 0, 2, 1)))
     t.packet(rectangle(0x404040, 0, 0, 2, 1, texture=(0, 0), semi=True))
     t.row(0, 0, [cell(12, 12, 12, 1)] * 2)
+
+
+@CHAPTER.test('A texel is multiplied first and then halved: 15 times 137 is 16, and the half of that is 8.',
+              marks=marks(('B/2 + F/2', 'modulation or raw'), Kind(RECTANGLES, 'given size', 'textured')))
+def half_of_a_product(t: Draft) -> None:
+    t.open()
+    t.given(640, 0, 3, [cell(15, 14, 14, 1)] * 3)
+    t.before(draw_mode(texture_page(640, 0, 2, 0)))
+    t.packet(rectangle(0x808089, 0, 0, 3, 1, texture=(0, 0), semi=True))
+    t.row(0, 0, [cell(8, 7, 7, 1)] * 3)

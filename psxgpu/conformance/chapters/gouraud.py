@@ -2,6 +2,7 @@
 from __future__ import annotations
 
 from psxgpu.capture import polygon
+from psxgpu.conformance.packets import POLYGONS, Kind, marks
 from psxgpu.conformance.suite import FORMULA, OWN, Chapter, Draft, rgb
 
 CHAPTER = Chapter('gouraud', 'GPU Render Polygon Commands')
@@ -59,3 +60,13 @@ def cut_at_the_left(t: Draft) -> None:
     t.open(5, 3, 1023, 511)
     shaded(t, [0x0000FF, 0x00FF00, 0xFF0000])
     t.cells = {(x, y): value for (x, y), value in t.cells.items() if x >= 5 and y >= 3}
+
+
+@CHAPTER.test('A channel that is whole in a cell is that number, though its steps are not whole.', OWN,
+              marks=marks(('shading', 'rounding of colours'), Kind(POLYGONS, 'triangle', 'shaded')))
+def whole_between_steps(t: Draft) -> None:
+    t.open()
+    # Green goes down by 67 1/3 a column and up by 81 1/3 a row: 202 - 67 1/3 + 81 1/3 = 216 in the cell (1, 1).
+    t.packet(polygon([(3, 0), (2, 2), (0, 0)], [0x000000, 0x00E600, 0x00CA00]))
+    t.row(0, 0, [(202 // 8) << 5, (134 // 8) << 5, (67 // 8) << 5])
+    t.row(1, 1, [(216 // 8) << 5, (148 // 8) << 5])

@@ -4,6 +4,7 @@ from __future__ import annotations
 from typing import Tuple
 
 from psxgpu.capture import draw_mode, line, rectangle, texture_page
+from psxgpu.conformance.packets import LINES, Kind, marks
 from psxgpu.conformance.suite import FORMULA, HAND, OWN, PSX_SPX, Chapter, Draft, cell
 
 CHAPTER = Chapter('lines', 'GPU Render Line Commands')
@@ -95,6 +96,16 @@ def shaded_nearest(t: Draft) -> None:
     for at in range(length + 1):
         t.cell(at, 0, cell(*((low + (2 * at * (high - low) + length) // (2 * length)) // 8
                              for low, high in zip(first, last))))
+
+
+@CHAPTER.test('A long line goes to the nearest channel just below a half, too, from either end.', OWN, FORMULA,
+              marks=marks(('shading', 'rounding of colours'), Kind(LINES, 'line', 'shaded')))
+def shaded_below_a_half(t: Draft) -> None:
+    t.open()
+    red, length = 0x22, 147     # 67 of 147 parts of 34 are 15.497: the channel is 15, and the cell 1
+    t.packet(line([(length, 0), (0, 0)], [0, red]), line([(0, 2), (length, 2)], [red, 0]))
+    for y in (0, 2):
+        t.row(0, y, [cell((2 * (length - x) * red + length) // (2 * length) // 8, 0, 0) for x in range(length + 1)])
 
 
 @CHAPTER.test('Each joint of a shaded polyline has a colour of its own.')

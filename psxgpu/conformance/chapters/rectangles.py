@@ -1,12 +1,14 @@
 """Rectangles: GP0(60h) to GP0(7Fh)."""
 from __future__ import annotations
 
-from psxgpu.capture import draw_mode, rectangle, texture_page
+from psxgpu.capture import clut, draw_mode, rectangle, texture_page
+from psxgpu.conformance.packets import RECTANGLES, Kind, marks
 from psxgpu.conformance.suite import HAND, OWN, PSX_SPX, Chapter, Draft
 
 CHAPTER = Chapter('rectangles', 'GPU Render Rectangle Commands')
 RED, CELL = 0x0000FF, 0x001F
 PAGE = texture_page(512, 0, 2)
+RAW_RECTANGLE = Kind(RECTANGLES, 'given size', 'raw')
 TEXELS = [0x1111, 0x2222, 0x3333, 0x4444, 0x5555, 0x6666, 0x7777, 0x0888]
 
 
@@ -123,6 +125,31 @@ def flip_y(t: Draft) -> None:
     t.packet(rectangle(0, 8, 8, 1, 4, texture=(0, 3), raw=True))
     for down in range(4):
         t.cell(8, 8 + down, TEXELS[3 - down])
+
+
+@CHAPTER.test('A flipped rectangle of odd width has its last column, of 4-bit texels, too.',
+              section='GP0(E1h) Draw Mode setting', marks=marks(('flip in X',), RAW_RECTANGLE))
+def flip_x_odd_width(t: Draft) -> None:
+    t.open()
+    t.given(512, 0, 2, [0x3210, 0x7654])
+    t.given(0, 480, 8, TEXELS)
+    t.before(draw_mode(texture_page(512, 0, 0), flip_x=True))
+    for y, width in ((8, 1), (10, 3), (12, 5)):
+        t.packet(rectangle(0, 8, y, width, 1, texture=(7, 0), palette=clut(0, 480), raw=True))
+        t.row(8, y, TEXELS[:7 - width:-1])
+
+
+@CHAPTER.test('A rectangle that is wider than 16 is flipped in Y as a narrow one.',
+              section='GP0(E1h) Draw Mode setting', marks=marks(('flip in Y',), RAW_RECTANGLE))
+def flip_y_wide(t: Draft) -> None:
+    t.open()
+    for v in range(4):
+        t.given(512, v, 40, [0x0421 * (v + 1)] * 40)
+    t.before(draw_mode(PAGE, flip_y=True))
+    for y, width in ((8, 16), (16, 17), (24, 40)):
+        t.packet(rectangle(0, 8, y, width, 4, texture=(0, 3), raw=True))
+        for down in range(4):
+            t.row(8, y + down, [0x0421 * (4 - down)] * width)
 
 
 @CHAPTER.test('A flipped U continues from 0 to 255.', OWN, section='GP0(E1h) Draw Mode setting')
