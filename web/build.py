@@ -15,6 +15,7 @@ every engine with SIMD runs it. These files are made in web/out:
 """
 import base64
 import gzip
+import json
 import os
 import sys
 
@@ -66,10 +67,16 @@ def script() -> str:
 def make_page() -> None:
     """Makes the script with the module in it, and the page with the script and two examples."""
     interface = script()
-    examples = ', '.join("'%s': '%s'" % (name, base64_of(read('examples', name + '.capture'))) for name in EXAMPLES)
-    page = read('web', 'index.html').decode().replace('const EXAMPLES = {};', 'const EXAMPLES = { %s };' % examples)
-    for name, text in (('psxgpu.js', interface), ('page.js', read('web', 'page.js').decode())):
-        page = page.replace('<script src="%s"></script>' % name, '<script>\n%s</script>' % text)
+    examples = {name: base64_of(read('examples', name + '.capture')) for name in EXAMPLES}
+    parts = {'<script type="application/json" id="example-files"></script>':
+             '<script type="application/json" id="example-files">%s</script>' % json.dumps(examples)}
+    for name, text in (('psxgpu.js', interface), ('page.js', bundle.script_of(WEB, 'film_page/page'))):
+        parts['<script src="%s"></script>' % name] = '<script>\n%s</script>' % text
+    page = read('web', 'film_page', 'index.html').decode()
+    for part, whole in parts.items():
+        if page.count(part) != 1:
+            sys.exit('web/build.py: web/film_page/index.html has no line %s' % part)
+        page = page.replace(part, whole)
     for name, text in (('psxgpu.js', interface), ('index.html', page)):
         with open(out(name), 'w', encoding='utf-8') as file:
             file.write(text)

@@ -10,7 +10,7 @@
 // script, which a page from a disk may load: what is exported here is in `psxgpu`. docs/LIBRARY.md describes it.
 
 import { bytesOf } from './bytes.js';
-import { isFlip, playRecords, records } from './capture.js';
+import { begun, isFlip, isMark, played, playRecords, records } from './capture.js';
 import { Library, MODES } from './library.js';
 import { Machine } from './machine.js';
 import { PACKED } from './module.js';
@@ -33,4 +33,4 @@ export async function load(bytes) {
     return new Library(instance);
 }
 
-export { Library, MODES, Machine, NO_PICTURE, Refused, bytesOf, isFlip, playRecords, records };
+export { Library, MODES, Machine, NO_PICTURE, Refused, begun, bytesOf, isFlip, isMark, played, playRecords, records };

@@ -32,7 +32,7 @@ class Controls(Reader):
 
     def test_no_select_does_something_for_good(self):
         self.assertEqual(self.page.evaluate('[...document.querySelectorAll("select")].map(({ id }) => id).sort()'),
-                         ['depth', 'filter', 'frames', 'rate'])
+                         ['depth', 'difference-as', 'filter', 'frames', 'rate', 'uploads-of'])
 
     def test_keys_go_on_after_an_event_was_written(self):
         self.page.press('g', 'g')

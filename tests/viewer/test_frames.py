@@ -15,12 +15,14 @@ class Frames(Reader):
         self.assertEqual(self.page.load(data, 'made.capture'), True)
 
     def test_costs(self):
-        """Each frame has a fill of 320 by 240 and three squares of 40 by 40. Before the first there is the display."""
+        """Each frame has a fill of 320 by 240 and three squares of 40 by 40. Before them the display is set: a frame."""
         self.load(two_buffers(3))
-        costs = self.page.evaluate('(({ packets, cells }) => [[...packets], [...cells]])(probe.viewer.timeline.marks.costs)')
-        self.assertEqual(costs, [[0, 4, 4, 4, 0], [0, 81600, 81600, 81600, 0]])
+        self.page.until('probe.viewer.timeline.marks.costs.isCounted(4)')
+        costs = self.page.evaluate('(({ packets, drawn, loaded }) => [[...packets], [...drawn], [...loaded]])'
+                                   '(probe.viewer.timeline.marks.costs)')
+        self.assertEqual(costs, [[0, 4, 4, 4, 0], [0, 81600, 81600, 81600, 0], [0] * 5])
         self.page.evaluate('probe.app.seek(probe.app.starts[2] + 1, "frame")')
-        self.assertEqual(self.page.text('#frame'), '2 of 4: 4 packets, 81,600 cells')
+        self.assertEqual(self.page.text('#frame'), '3 of 4: 4 packets, 81,600 cells drawn')
 
     def test_a_click_on_a_frame_goes_to_its_end(self):
         self.load(two_buffers(3))
@@ -93,7 +95,7 @@ class Frames(Reader):
         self.assertEqual(alpha, [0, 255, 255])
         self.page.call('Browser.setDownloadBehavior', behavior='allow', downloadPath=self.folder)
         self.page.evaluate('probe.viewer.out.does("texture")')
-        path = os.path.join(self.folder, 'made-%s-texture.png' % self.page.evaluate('probe.viewer.out.place'))
+        path = os.path.join(self.folder, 'made-%s-texture-alpha.png' % self.page.evaluate('probe.viewer.out.place'))
         for _ in range(300):
             if os.path.exists(path):
                 break

@@ -8,7 +8,7 @@ import sys
 import time
 
 from tests.viewer.page import ROOT, program
-from tests.viewer.reader import Reader, holding
+from tests.viewer.reader import Reader
 
 
 class Out(Reader):
@@ -30,13 +30,13 @@ class Out(Reader):
         self.page.press('3', '3')
         seen = self.page.evaluate('[...probe.viewer.views.view.source.getContext("2d").getImageData(150, 140, 1, 1).data]')
         self.assertEqual(seen, [255, 77, 109, 255])
+        self.page.until('document.getElementById("compare").textContent.includes("first drawn by")')
         told = self.page.evaluate('document.getElementById("compare").textContent')
         tool = [sys.executable, '-m', 'psxgpu', 'compare', own, other]
         said = subprocess.run(tool, capture_output=True, text=True, check=False, cwd=ROOT)
         self.assertIn('their box100 140 150 150', told)
         self.assertIn('100 140 150 150', said.stdout)
-        lines = program('list', data=data)[0].decode().splitlines()
-        event, name, head = holding(lines, 150, 140)[0].split()[:3]
+        event, name, head = program('pixel', '150', '140', data=data)[0].decode().split()[:3]
         self.assertRegex(told, r'first drawn byevent %s\.\d+: %s %s' % (event, name, head))
 
     def test_a_png_of_the_picture_is_the_picture(self):

@@ -52,7 +52,7 @@ class Page:
         self.assertEqual(self.browser.evaluate('finished'), {'passed': number, 'tests': number})
         self.browser.evaluate('run(TESTS)')
         self.assertEqual(self.browser.evaluate(LINES % 'li.failed'), [])
-        self.assertEqual(self.browser.evaluate(LINES % 'li b'), [test.name for test in every_test()])
+        self.assertEqual(self.browser.evaluate(LINES % 'li a'), [test.name for test in every_test()])
         self.assertIn('%d of %d tests passed in' % (number, number), self.browser.evaluate(LINES % '#said')[0])
 
     def test_what_fails(self):

@@ -1,5 +1,7 @@
 // Functions of test_web.py in the page.
 
+var library = page.state.library;
+
 function bytesOf(text) { return Uint8Array.from(atob(text), letter => letter.charCodeAt(0)); }
 async function sumOf(bytes) {
     const sum = new Uint8Array(await crypto.subtle.digest('SHA-256', bytes));
@@ -79,4 +81,20 @@ function stepBack() {
     const seen = [between, machine.cell(3, 604)];
     machine.close();
     return seen;
+}
+// Opens bytes as a file. Gives what the page says, its count, the size of the picture and the sum of its pixels.
+async function opened(text, name) {
+    const { element } = page, canvas = element('picture');
+    await page.open(new Blob([bytesOf(text)]), name);
+    const pixels = canvas.getContext('2d').getImageData(0, 0, canvas.width, canvas.height).data;
+    return [element('said').textContent, element('count').textContent, [canvas.width, canvas.height], await sumOf(pixels)];
+}
+// The names of the controls that have none.
+function nameless() {
+    return [...document.querySelectorAll('button, select, input, canvas')].filter(it =>
+        !(it.getAttribute('aria-label') || it.textContent.trim() || it.labels?.[0]?.textContent)).map(it => it.id);
+}
+// Whether the page takes a file that is dropped beside the picture: the browser would open it in its place.
+function takesDrops() {
+    return ['dragover', 'drop'].every(kind => !document.body.dispatchEvent(new DragEvent(kind, { bubbles: true, cancelable: true })));
 }

@@ -4,6 +4,7 @@
 Chromium the module with addresses of 64 bits, from which it is made, has to write the same. The script lines of
 docs/LIBRARY.md are tried, each that ends in a comment with its value."""
 import base64
+import gzip
 import hashlib
 import json
 import os
@@ -13,6 +14,8 @@ import unittest
 HERE = os.path.dirname(os.path.abspath(__file__))
 WEB = os.path.join(os.path.dirname(os.path.dirname(HERE)), 'web')
 
+from psxgpu.dumps.export import About, Export
+from psxgpu.stream import END, GP0, GP1, Stream, encode
 from tests import support
 from tests.library import support as program
 from tests.web.browser import Browser, chromium
@@ -25,6 +28,22 @@ WIDE_MEMORY = 'WebAssembly.validate(new Uint8Array([0, 97, 115, 109, 1, 0, 0, 0,
 # Functions of the tests in the page.
 with open(os.path.join(HERE, 'test_web.js'), encoding='utf-8') as script:
     HELPERS = script.read()
+EXAMPLES = os.path.join(program.TOP, 'examples')
+
+
+def gp0(*words):
+    """A record of words to GP0."""
+    return encode(GP0, len(words), words)
+
+
+def gp1(word):
+    """A record of a word to GP1."""
+    return encode(GP1, 1, [word])
+
+
+def whole(*records):
+    """The bytes of a capture of version 1."""
+    return b'PSXGPUC1' + b''.join(records) + encode(END, 0, [])
 
 
 class Page:
@@ -37,7 +56,7 @@ class Page:
 
     def setUp(self):
         self.browser.open(os.path.join(WEB, 'out', 'index.html'))
-        self.browser.evaluate('ready.then(() => true)')
+        self.browser.evaluate('page.ready.then(() => true)')
         self.browser.define(HELPERS)
 
     def plays(self, command):
@@ -89,16 +108,50 @@ class Page:
     def test_heap(self):
         self.assertEqual(self.browser.evaluate('heapFaults(5000)'), 0)
 
+    def opened(self, data, name='a name'):
+        """What the page says of a file, its count, the size of the picture, and the sum of its pixels."""
+        return self.browser.evaluate("opened('%s', '%s')" % (base64.b64encode(data).decode(), name))
+
     def test_page(self):
         """A capture that is opened shows the picture of its end."""
-        path = os.path.join(program.TOP, 'examples', 'two-fills.capture')
-        text = base64.b64encode(program.bytes_at(path)).decode()
-        self.browser.evaluate("open(bytesOf('%s'), 'two-fills')" % text)
-        pixel = "[...element('picture').getContext('2d').getImageData(%d, %d, 1, 1).data]"
-        self.assertEqual(self.browser.evaluate("[element('picture').width, element('picture').height]"), [320, 240])
+        self.opened(program.bytes_at(os.path.join(EXAMPLES, 'two-fills.capture')), 'two-fills')
+        pixel = "[...page.element('picture').getContext('2d').getImageData(%d, %d, 1, 1).data]"
+        self.assertEqual(self.browser.evaluate("[page.element('picture').width, page.element('picture').height]"), [320, 240])
         # The colours 0x802010 and 0x0000FF as cells of five bits a channel, and these widened again.
         self.assertEqual(self.browser.evaluate(pixel % (5, 5)), [16, 33, 132, 255])
         self.assertEqual(self.browser.evaluate(pixel % (130, 90)), [255, 0, 0, 255])
+        self.assertEqual(self.browser.evaluate('nameless()'), [])
+        self.assertTrue(self.browser.evaluate('takesDrops()'))
+
+    @program.needs_player
+    def test_files(self):
+        """A packed file, and a GPU dump, are opened as the capture is."""
+        path = os.path.join(EXAMPLES, 'flips.capture')
+        capture = program.bytes_at(path)
+        with open(path, 'rb') as file:
+            dump = b''.join(Export(Stream(file, path), False, About()))
+        wanted = self.opened(capture)
+        self.assertEqual(wanted[0], 'a name')
+        for data in gzip.compress(capture), dump, gzip.compress(dump):
+            self.assertEqual(self.opened(data), wanted)
+
+    @program.needs_player
+    def test_frames(self):
+        """A frame ends at a flip, or at a mark if there is no flip; what follows the last is a frame if it has a packet."""
+        flip, mark, fill, half = gp1(0x05000000), gp1(0x3F000001), gp0(0x020000FF, 0, 0x00100010), gp0(0x02000000, 0)
+        for parts, count in [([], ''), ([half], ''), ([fill], 'frame 1 of 1'), ([fill, flip], 'frame 1 of 1'),
+                             ([fill, flip, half], 'frame 1 of 1'), ([fill, flip, fill], 'frame 2 of 2'),
+                             ([fill, mark, fill, mark], 'frame 2 of 2'), ([fill, mark, flip, fill, mark], 'frame 2 of 2')]:
+            self.assertEqual(self.opened(whole(gp1(0x03000000), *parts))[1], count, parts)
+        self.assertEqual(self.opened(whole(fill, flip, fill)[:-1])[:2],
+                         ['a name: the capture ends before its End record', 'frame 2 of 2'])
+        self.assertEqual(self.opened(whole(fill, flip, encode(GP1, 0, [0x05000000])))[:2],
+                         ['a name: bad record at byte 32', 'frame 1 of 1'])
+
+    def test_no_recording(self):
+        for data, said in [(b'P6\n4 4\n255\n' + bytes(48), 'a name: this is a picture (PPM, 4 × 4). Open'),
+                           (b'text', 'a name: neither a capture nor a snapshot')]:
+            self.assertEqual(self.opened(data)[0][:len(said)], said)
 
 
 @unittest.skipUnless(chromium(), 'no Chromium')

@@ -51,12 +51,32 @@ function clear(memory, text) {
     }
 }
 
+/** Returns what the sum of video memory is taken of: the number of rows, then the number and the cells of each row that is
+ * not all 0. web/suite_page/pack.py takes it of the same bytes.
+ * @param {Uint8Array} memory */
+function filledRows(memory) {
+    const count = memory.length / (2 * COLUMNS), number = (/** @type {number} */ y) => Uint8Array.of(y & 255, y >> 8);
+    const words = new Uint32Array(memory.slice().buffer), parts = [number(count)];
+    for (let y = 0; y < count; y++) {
+        if (words.subarray(y * COLUMNS / 2, (y + 1) * COLUMNS / 2).some(Boolean)) {
+            parts.push(number(y), memory.subarray(2 * COLUMNS * y, 2 * COLUMNS * (y + 1)));
+        }
+    }
+    const bytes = new Uint8Array(parts.reduce((sum, part) => sum + part.length, 0));
+    let at = 0;
+    for (const part of parts) {
+        bytes.set(part, at);
+        at += part.length;
+    }
+    return bytes;
+}
+
 /** Returns how video memory differs, or an empty text.
  * @param {Player} player @param {Uint8Array} capture @param {string} sum @param {string} ignored */
 async function memoryFault(player, capture, sum, ignored) {
     const memory = player.play('vram', capture);
     clear(memory, ignored);
-    return await sumOf(memory) === sum ? '' : 'video memory differs';
+    return await sumOf(filledRows(memory)) === sum ? '' : 'video memory differs';
 }
 
 /** Returns how the words that are read differ, or an empty text.
@@ -113,6 +133,15 @@ function made(kind, text) {
     return made;
 }
 
+/** Returns a link that saves the capture of a test.
+ * @param {Test} test @param {string} name */
+function saving(test, name) {
+    const link = /** @type {HTMLAnchorElement} */ (made('a', name));
+    link.download = test.expected.split('\t')[0].replace('/', '-') + '.capture';
+    link.href = 'data:application/octet-stream;base64,' + test.capture;
+    return link;
+}
+
 /** Adds the line of a test to its chapter.
  * @param {Test} test @param {string} fault */
 function addLine(test, fault) {
@@ -125,7 +154,7 @@ function addLine(test, fault) {
     }
     const line = made('li', ''), says = made('span', test.says + ' ');
     says.append(made('small', decides));
-    line.append(made('b', name), says);
+    line.append(saving(test, name), says);
     line.classList.toggle('failed', fault !== '');
     if (fault) line.append(made('em', fault));
     list.append(line);

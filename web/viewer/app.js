@@ -1,21 +1,25 @@
 // What is open, and the place that is shown. The panels listen: 'opened', 'arrived' (an opened recording is at its last
 // frame), 'moved' (another place), 'cell' (another cell is chosen), 'texture' (another page is chosen), 'second' (a
 // recording beside this one), 'goto' (show what differs), 'ahead' (the pass has played on), 'work' (its progress) and
-// 'said' (a line).
+// 'said' (a line), 'costs' (more frames are counted) and 'compared' (what differs is shown in another way).
 
+import { adviceOf } from './reading/advice.js';
 import { Ahead } from './playing/ahead.js';
 import { breath } from './playing/yield_to_page.js';
 import { Machine } from './playing/machine.js';
 import { Pass } from './playing/pass.js';
 import { Player } from './playing/player.js';
+import { frameCount } from './playing/frames.js';
 import { Stopped, openFile } from './reading/opening.js';
 import { isDrawing, nextRow } from './panels/stepping.js';
 
 export class App extends EventTarget {
     constructor(library) {
         super();
-        Object.assign(this, { library, recording: null, pass: null, at: 0, cell: null, working: null, how: 'time',
-            listed: null, beside: null, framesBy: 'flips' });
+        Object.assign(this, { library, recording: null, pass: null, at: 0, cell: null, pixel: null, working: null });
+        Object.assign(this, { how: 'time', listed: null, beside: null, framesBy: 'flips' });
+        /** How what differs is shown: `as` is 'plain', 'pale', 'steps', or null for the usual one. */
+        this.comparing = { as: null, isSwapped: false, tolerance: 0 };
         this.machine = new Machine(library);
         this.ahead = new Ahead(this);
     }
@@ -23,8 +27,11 @@ export class App extends EventTarget {
     /** The place that the page goes to when it is played so far, or -1. */
     get goal() { return this.ahead.goal; }
 
-    /** The steps at which frames begin: display starts or marks, as the reader chose. */
+    /** The steps that end frames: display starts or marks, as the reader chose. */
     get starts() { return this.recording?.[this.framesBy] ?? []; }
+
+    /** The number of frames. */
+    get frames() { return this.recording ? frameCount(this.recording, this.starts) : 0; }
 
     // A browser compiles what runs often better than what runs once: this is done before the reader waits for it.
     async warmUp() {
@@ -47,9 +54,9 @@ export class App extends EventTarget {
         this.tell('said');
     }
 
-    /** Says what went wrong. */
-    warn(text, choice = null) {
-        this.said = { text, choice, isWarning: true };
+    /** Says what went wrong, and with `advice` what to do. */
+    warn(text, choice = null, advice = '') {
+        this.said = { text, choice, advice, isWarning: true };
         this.tell('said');
     }
 
@@ -64,7 +71,9 @@ export class App extends EventTarget {
             if (stopper === this.stopOpening) this.adopt(Object.assign(recording, { source: blob, ...from }));
             return true;
         } catch (fault) {
-            if (!(fault instanceof Stopped)) this.warn(`${name}: ${fault.message}`, this.choiceOf(fault, blob, from));
+            if (fault instanceof Stopped) return false;
+            const advice = await adviceOf(fault, blob);
+            this.warn(`${name}: ${fault.message}`, this.choiceOf(fault, blob, from), advice);
             return false;
         } finally {
             if (stopper === this.stopOpening) this.work(null);
@@ -92,6 +101,7 @@ export class App extends EventTarget {
         this.player = new Player(recording, this.machine);
         this.pass = new Pass(recording, new Machine(this.library));
         this.cell = null;
+        this.pixel = null;
         this.how = 'time';
         this.framesBy = recording.flips.length > 0 || recording.marks.length === 0 ? 'flips' : 'marks';
         this.at = 0;
@@ -158,8 +168,12 @@ export class App extends EventTarget {
         else this.seek(row < 0 ? 0 : length, 'packet');
     }
 
-    choose(cell) {
-        this.cell = cell;
+    /**
+     * Chooses a cell. `pixel`: the pixel of the picture that was chosen; then another cell is chosen as soon as the picture
+     * shows another one there.
+     */
+    choose(cell, pixel = null) {
+        Object.assign(this, { cell, pixel });
         this.tell('cell');
     }
 }

@@ -1,9 +1,9 @@
-// Choices of the reader that are kept in this browser: the theme, and which side panels are open.
+// Choices of the reader that are kept in this browser: the theme, and which side panels are open and how wide.
 
 import { element } from './panels/dom.js';
 
 // A browser may refuse a page its storage; then nothing is kept.
-function recall(name) {
+export function recall(name) {
     try {
         return localStorage.getItem(`valerianpane-${name}`);
     } catch {
@@ -11,7 +11,7 @@ function recall(name) {
     }
 }
 
-function keep(name, value) {
+export function keep(name, value) {
     try {
         localStorage.setItem(`valerianpane-${name}`, value);
     } catch {
@@ -37,6 +37,7 @@ export function wireFolds() {
         const button = element(`fold-${side}`);
         const set = isOpen => {
             element(side).hidden = !isOpen;
+            element(`split-${side}`).hidden = !isOpen;
             button.setAttribute('aria-expanded', isOpen);
             document.body.classList.toggle(`no-${side}`, !isOpen);
         };

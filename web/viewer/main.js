@@ -1,12 +1,14 @@
 // Begins: the machine, the panels, files that are chosen or dropped, the examples that the page brings along.
 
 import { App } from './app.js';
-import { ComparePanel } from './panels/compare_panel.js';
+import { ComparePanel } from './comparing/compare_panel.js';
 import { counted, element, made } from './panels/dom.js';
 import { addressOf } from './playing/address.js';
 import { Keys } from './panels/keys.js';
+import { FrameTable } from './costs/frame_table.js';
 import { wireFolds, wireTheme } from './kept.js';
 import { Follower } from './panels/link.js';
+import { MemoryPanel } from './costs/memory_panel.js';
 import { makeMenu } from './panels/menu.js';
 import { nameOf } from './reading/names.js';
 import { ListPanel } from './panels/list_panel.js';
@@ -16,6 +18,7 @@ import { PalettePanel } from './panels/palette_panel.js';
 import { PixelPanel } from './panels/pixel_panel.js';
 import { Receiver } from './reading/receiver.js';
 import { RegistersPanel } from './panels/registers_panel.js';
+import { wireSplits } from './panels/resizing.js';
 import { Timeline } from './panels/timeline.js';
 import { Views } from './views/views.js';
 
@@ -41,18 +44,18 @@ function wireFiles(app, receiver) {
         event.preventDefault();
         document.body.classList.remove('over');
         const [file] = event.dataTransfer.files;
-        if (file) receiver.open(file, file.name);
+        if (file) receiver.open(file, file.name, { isDropped: true });
     });
     return openExample;
 }
 
 function wireSaid(app) {
     app.on('said', () => {
-        const { text, choice, isWarning } = app.said, line = element('said');
+        const { text, choice, advice, isWarning } = app.said, line = element('said');
         line.hidden = text === '';
         line.classList.toggle('warning', Boolean(isWarning));
         line.setAttribute('role', isWarning ? 'alert' : 'status');
-        line.replaceChildren(text);
+        line.replaceChildren(text, ...(advice ? [made('span', 'advice', advice)] : []));
         if (choice) line.append(Object.assign(made('button', '', choice.text), { onclick: choice.does }));
         if (text) line.append(Object.assign(made('button', '', 'Close'), { onclick: () => app.say('') }));
     });
@@ -65,10 +68,11 @@ function wireSaid(app) {
     });
     element('stop').addEventListener('click', () => app.working?.stop?.());
     app.on('opened', () => {
-        const { name, head, length, rows, flips, marks, isPart } = app.recording;
-        const counts = { steps: length, rows: rows.length, flips: flips.length, marks: marks.length };
-        const parts = [head, ...Object.entries(counts).map(([what, count]) => counted(count, what))];
-        element('file').textContent = `${name}${isPart ? ', up to its fault' : ''}: ${parts.join(', ')}`;
+        const { name, what, length, flips, marks, isPart } = app.recording;
+        const counts = { steps: length, frames: app.frames, flips: flips.length, marks: marks.length };
+        const parts = [what, ...Object.entries(counts).map(([what, count]) => counted(count, what))];
+        const text = `${name}${isPart ? ', up to its fault' : ''}: ${parts.join(', ')}`;
+        Object.assign(element('file'), { textContent: text, title: text });
         document.title = `${name}: Valerianpane`;
     });
 }
@@ -101,16 +105,18 @@ export async function main() {
     new RegistersPanel(app);
     const compare = new ComparePanel(app);
     const timeline = new Timeline(app), out = new Out(app, views);
+    const table = new FrameTable(app, timeline.marks), memory = new MemoryPanel(app, views);
     new Keys({ app, views, timeline });
     wireFaults(app);
     wireSaid(app);
     wireSpoken(app, timeline);
     wireTheme(() => timeline.marks.repaint());
     wireFolds();
+    wireSplits();
     const receiver = new Receiver(app, compare);
     out.follower = new Follower(app, views, wireFiles(app, receiver));
     app.warmUp();
-    return { app, list, views, pixel, timeline, out, compare, receiver };
+    return { app, list, views, pixel, timeline, out, compare, receiver, table, memory };
 }
 
 // Settled when the page can be used: the checks wait for it.

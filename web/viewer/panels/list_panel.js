@@ -7,8 +7,12 @@ import { element, grouped, made, swatch } from './dom.js';
 import { lastUpTo } from '../numbers.js';
 import { cellProblem, find } from './search.js';
 import { isDrawing } from './stepping.js';
+import { readWords } from './packet_panel.js';
 import { hex, nameOf } from '../reading/names.js';
 import { colorIn, shortOf } from '../reading/words.js';
+
+// How many words of a read are shown in its row.
+const FEW_READ = 3;
 
 const FILTERS = { packets: (rows, row) => rows.isPacket(row), drawing: isDrawing };
 
@@ -25,7 +29,7 @@ const areaText = ({ x1, y1, x2, y2 }) => [x1, y1, x2, y2].map(number => String(n
 
 export class ListPanel {
     constructor(app) {
-        Object.assign(this, { app, shown: null, found: null });
+        Object.assign(this, { app, shown: null, found: null, wrapped: '' });
         this.list = new List(element('list'), {
             count: () => this.shown?.length ?? app.recording?.rows.length ?? 0,
             draw: (row, index) => this.draw(row, this.rowAt(index)),
@@ -77,7 +81,7 @@ export class ListPanel {
         const at = found ? lastUpTo(found, row) : -1, isHere = at >= 0 && found[at] === row;
         const count = found && `${isHere ? `${grouped(at + 1)} of ` : ''}${grouped(found.length)} found`;
         said.textContent = problem ?? (found === null ? `${grouped(recording.rows.length)} rows`
-            : count + (text.includes(',') && !pass.isDone() ? ' so far' : ''));
+            : count + (text.includes(',') && !pass.isDone() ? ' so far' : '') + this.wrapped);
         said.classList.toggle('warning', problem !== null);
     }
 
@@ -99,9 +103,18 @@ export class ListPanel {
     goOn(by) {
         if (!this.found) return;
         if (/,/.test(element('query').value)) this.search();
-        const here = this.app.row ?? -1, at = lastUpTo(this.found, here);
-        const to = by > 0 ? at + 1 : this.found[at] === here ? at - 1 : at;
-        if (to >= 0 && to < this.found.length) this.app.seekRow(this.found[to]);
+        const { found } = this, here = this.app.row ?? -1, at = lastUpTo(found, here), last = found.length - 1;
+        const to = by > 0 ? at + 1 : found[at] === here ? at - 1 : at;
+        this.wrapped = to < 0 ? ', on from the end' : to > last ? ', on from the start' : '';
+        if (found.length > 0) this.app.seekRow(found[to < 0 ? last : to > last ? 0 : to]);
+        this.wrapped = '';
+    }
+
+    // How often it reads, and the first words that it read.
+    readText(row, count) {
+        const words = (readWords(this.app, row, FEW_READ) ?? []).map(word => hex(word));
+        const more = words.length > 0 && count > words.length ? ['…'] : [];
+        return [...(count > 1 ? [`${grouped(count)} times`] : []), ...words, ...more].join(' ');
     }
 
     draw(line, row) {
@@ -110,10 +123,11 @@ export class ListPanel {
         if (kind === KIND.GP1) line.classList.add('control');
         if (kind > KIND.GP1) line.classList.add('read');
         const count = rows.done[row] - rows.first[row] + 1, color = colorIn(kind, head), area = rows.area(row);
-        const short = kind > KIND.GP1 ? (count > 1 ? `${grouped(count)} times` : '') : shortOf(kind, head, height);
+        const short = kind > KIND.GP1 ? this.readText(row, count) : shortOf(kind, head, height);
         line.title = kind > KIND.GP1 ? '' : `${hex(head)} ${short}`;
         line.replaceChildren(made('span', 'number', rowAddress(app.recording, row)),
-            made('span', 'name', nameOf(kind, head)), color ? swatch(color) : made('span', 'no-swatch'),
-            made('span', 'rest', short), made('span', 'area', area ? areaText(area) : ''));
+            made('span', 'name', nameOf(kind, head)),
+            color ? swatch(color) : made('span', short && !area ? 'no-swatch none' : 'no-swatch'),
+            made('span', 'tail', made('span', 'rest', short), made('span', 'area', area ? areaText(area) : '')));
     }
 }

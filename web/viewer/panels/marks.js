@@ -1,11 +1,12 @@
-// The small timeline: for each frame the packets that draw in it and the cells of their areas, how far the recording is
+// The small timeline: for each frame the packets that draw in it and the cells that they cover, how far the recording is
 // played, and the place that is shown.
 
-import { costsOf } from '../playing/costs.js';
+import { Costs } from '../costs/costs.js';
 import { counted, element, grouped } from './dom.js';
 import { lastUpTo } from '../numbers.js';
 
-const INSET = 8;
+// Pixels beside the bars; milliseconds after a step of the reader in which the counting waits.
+const INSET = 8, CALM = 120;
 
 // A colour of the style sheet, as it is in dark or light.
 function inkOf(canvas, name) {
@@ -29,16 +30,34 @@ export class Marks {
 
     /** Counts the frames anew: another recording, other frames, or all areas are known. */
     count() {
-        const { recording, starts } = this.app;
-        this.costs = recording && costsOf(recording, starts);
+        const { recording, starts, pass, library, ahead } = this.app;
+        this.costs?.stop();
+        const costs = this.costs = recording && new Costs(recording, starts, library);
         this.repaint();
+        if (!pass?.isDone()) return;
+        this.waits = () => performance.now() - ahead.touched < CALM;
+        costs.run(this.waits, () => { if (costs === this.costs) this.counted(); });
+    }
+
+    /** Counts texels and blended cells too, which a table of frames shows. */
+    countKinds() {
+        const { costs, app } = this;
+        if (!costs || !app.pass?.isDone() || costs.hasKinds) return;
+        costs.hasKinds = true;
+        costs.run(this.waits, () => { if (costs === this.costs) app.tell('costs'); }, true);
+    }
+
+    // More frames are counted.
+    counted() {
+        this.repaint();
+        this.app.tell('costs');
     }
 
     frameAt({ offsetX }) {
         const { recording, starts } = this.app, { clientWidth } = this.canvas;
         if (!recording) return -1;
         const step = (offsetX - INSET) / (clientWidth - 2 * INSET) * recording.length;
-        return lastUpTo(starts, step) + 1;
+        return Math.max(0, Math.min(lastUpTo(starts, step) + 1, this.app.frames - 1));
     }
 
     goTo(frame) {
@@ -46,13 +65,16 @@ export class Marks {
         if (frame >= 0) app.seek(frame < starts.length ? starts[frame] + 1 : app.recording.length, 'frame');
     }
 
-    /** Returns a frame in words: its number, packets and cells. */
+    /** Returns a frame in words: its number from 1, packets and cells. */
     textOf(frame) {
         const { costs, app } = this;
         if (!costs || frame < 0) return '';
+        if (app.frames === 0) return 'no frame: there is no packet';
         const packets = counted(costs.packets[frame], 'packets');
-        const cells = app.pass.isDone() ? `, ${grouped(costs.cells[frame])} cells` : '';
-        return `frame ${grouped(frame)} of ${grouped(app.starts.length)}: ${packets}${cells}`;
+        if (app.pass.isDone()) costs.countNow(frame);
+        const loaded = costs.loaded[frame] ? `, ${grouped(costs.loaded[frame])} loaded` : '';
+        const cells = costs.isCounted(frame) ? `, ${grouped(costs.drawn[frame])} cells drawn${loaded}` : '';
+        return `frame ${grouped(frame + 1)} of ${grouped(app.frames)}: ${packets}${cells}`;
     }
 
     /** Draws all anew, as when the theme is another. */
@@ -90,11 +112,11 @@ export class Marks {
         return bars;
     }
 
-    // For all frames a bar of their cells, and a line at the height of their packets. Frames that share a column show the
-    // greatest of them.
+    // For all frames a bar of the cells that they draw, without loads, and a line at the height of their packets. Frames that
+    // share a column show the greatest of them.
     drawFrames(context, place, height, ratio) {
         const { costs, canvas } = this;
-        for (const [values, ink, isBar] of [[costs.cells, '--bar', true], [costs.packets, '--quiet', false]]) {
+        for (const [values, ink, isBar] of [[costs.drawn, '--bar', true], [costs.packets, '--quiet', false]]) {
             context.fillStyle = inkOf(canvas, ink);
             const most = values.reduce((a, b) => Math.max(a, b), 1);
             for (const { from, to, value } of this.columns(values, place, ratio)) {

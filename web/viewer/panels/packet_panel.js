@@ -2,6 +2,7 @@
 
 import { rowAddress } from '../playing/address.js';
 import { KIND } from '../reading/rows.js';
+import { STEP } from '../reading/track.js';
 import { element, grouped, made, swatch, tableOf } from './dom.js';
 import { cssOf, offsetOf } from '../reading/fields.js';
 import { hex, nameOf } from '../reading/names.js';
@@ -15,6 +16,24 @@ export function rowHere({ recording, row, registers }) {
     const kind = rows.kind[row], head = rows.head[row], words = kind >= KIND.READS ? [] : rows.words(row, track);
     const packet = rows.isPacket(row) ? packetOf(kind, head, words, { registers, height }) : {};
     return { row, kind, head, words, packet, area: rows.area(row), isKnown: rows.near[row] !== 0xFFFFFFFE };
+}
+
+// How many words that were read are shown.
+const MOST_READ = 256;
+
+/**
+ * Returns the words that a row of reads returned, as `play` writes them; null if it is not played yet.
+ * @param {App} app
+ * @param {number} row
+ * @returns {number[] | null}
+ */
+export function readWords({ recording, pass }, row, most = MOST_READ) {
+    const { rows, track } = recording, out = [];
+    if (pass.at <= rows.done[row]) return null;
+    for (let step = rows.first[row]; step <= rows.done[row] && out.length < most; step++) {
+        if (track.kind(step) === STEP.READ || track.kind(step) === STEP.STAT) out.push(track.word(step));
+    }
+    return out;
 }
 
 // The vertices as the words have them, and the cells that they are at with the drawing offset added.
@@ -39,6 +58,7 @@ export class PacketPanel {
     constructor(app) {
         this.app = app;
         app.on('opened moved', () => this.draw());
+        app.on('ahead', () => { if (app.row >= 0 && app.recording.rows.kind[app.row] >= KIND.READS) this.draw(); });
     }
 
     draw() {
@@ -61,7 +81,15 @@ export class PacketPanel {
             ...fieldsOf(kind, head, packet, this.app.registers),
             ['area', this.areaText(here)],
         ]), ...(packet.vertices ? [verticesOf(packet, offsetOf(this.app.registers[4]))] : []),
-        ...this.wordsOf(words, done - rows.done[row] - 1));
+        ...this.wordsOf(words, done - rows.done[row] - 1), ...(kind >= KIND.READS ? this.readsOf(row, count) : []));
+    }
+
+    readsOf(row, count) {
+        const read = readWords(this.app, row);
+        if (!read) return [made('p', 'quiet', 'The words that were read are shown when they are played.')];
+        if (read.length === 0) return [made('p', 'quiet', 'The words went to main memory, or were dropped.')];
+        const more = count > read.length ? ` and ${grouped(count - read.length)} more` : '';
+        return [made('p', 'words', read.map(word => hex(word)).join(' ') + more)];
     }
 
     areaText({ area, isKnown }) {

@@ -47,7 +47,7 @@ export class PalettePanel {
     }
 
     made(index) {
-        const entry = Object.assign(made('button', 'color', String(index)), { type: 'button' });
+        const entry = Object.assign(made('button', index > 99 ? 'color three' : 'color', String(index)), { type: 'button' });
         entry.addEventListener('click', () => {
             const { views } = this;
             views.choice.mark(views.choice.marked === index ? undefined : index);

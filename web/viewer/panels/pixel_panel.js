@@ -8,7 +8,7 @@ import { breath } from '../playing/yield_to_page.js';
 import { element, grouped, made, swatch, tableOf } from './dom.js';
 import { channelsOf } from '../reading/fields.js';
 import { lastUpTo } from '../numbers.js';
-import { cssOfCell } from '../views/pixels.js';
+import { cssOfCell, deepPixel } from '../views/pixels.js';
 import { hex, nameOf } from '../reading/names.js';
 
 // Milliseconds between two reports of what is found.
@@ -19,6 +19,11 @@ export function itemOf(recording, { step, row }) {
     const { rows, track } = recording;
     if (row < 0 || step > rows.done[row]) return { name: 'pixels', head: track.word(step) };
     return { name: nameOf(rows.kind[row], rows.head[row]), head: rows.head[row] };
+}
+
+/** The address of a change: that of the row that made it; of a load's data word its own place. */
+export function changeAddress(recording, { step, row }) {
+    return row >= 0 && recording.rows.done[row] === step ? rowAddress(recording, row) : addressOf(recording, step + 1);
 }
 
 const channelsText = cell => {
@@ -67,7 +72,15 @@ export class PixelPanel {
         const { x, y } = app.cell, cell = app.cells[y * 1024 + x];
         this.note = made('p', 'quiet', this.told ?? '');
         const value = ['value', swatch(cssOfCell(cell)), made('span', 'mono', ` ${hex(cell, 4)}`)];
-        panel.replaceChildren(tableOf([['cell', `(${x}, ${y})`], value, ['channels', channelsText(cell)]]), this.note);
+        panel.replaceChildren(tableOf([...this.pixelRows(), ['cell', `(${x}, ${y})`], value,
+            ['channels', channelsText(cell)]]), this.note);
+    }
+
+    // The pixel of the screen, if it was chosen in the picture, and its colour if it has 24 bits.
+    pixelRows() {
+        const { pixel, picture, registers } = this.app, at = pixel && deepPixel(picture, registers, pixel);
+        if (!pixel) return [];
+        return [['pixel', `(${pixel.x}, ${pixel.y})`], at && ['colour', swatch(`#${at.hex}`), ` ${at.text}`]];
     }
 
     say(text) {
@@ -107,20 +120,23 @@ export class PixelPanel {
         element('history').hidden = count === 0;
         this.list.changed();
         this.list.reveal(this.current());
+        if (part === 1) this.announce(count);
         this.isWhole = part === 1;
     }
 
-    // The row that made the change; of a load's data word its own place.
-    addressOf({ step, row }) {
-        const { recording } = this.app;
-        return row >= 0 && recording.rows.done[row] === step ? rowAddress(recording, row) : addressOf(recording, step + 1);
+    // For those who listen: the cell that was chosen, and what changed it last up to this place.
+    announce(count) {
+        const { app, history } = this, { x, y } = history.cell, last = history.changes[this.current()];
+        const by = last ? `, last by event ${changeAddress(app.recording, last)}, ${itemOf(app.recording, last).name}` : '';
+        const times = count === 0 ? 'nothing changed it' : `changed ${grouped(count)} ${count === 1 ? 'time' : 'times'}`;
+        element('spoken').textContent = `cell (${x}, ${y}): ${times}${by}`;
     }
 
     drawChange(line, change) {
         const { recording, at } = this.app, { name } = itemOf(recording, change);
         if (change.step >= at) line.classList.add('later');
         line.title = 'go to what drew this';
-        const number = made('span', 'number', this.addressOf(change));
+        const number = made('span', 'number', changeAddress(recording, change));
         const valueOf = cell => [swatch(cssOfCell(cell)), made('span', '', hex(cell, 4))];
         line.replaceChildren(number, made('span', 'name', name), ...valueOf(change.before), made('span', 'quiet', '→'),
             ...valueOf(change.after));

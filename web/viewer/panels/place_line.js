@@ -2,8 +2,9 @@
 
 import { element } from './dom.js';
 import { hex } from '../reading/names.js';
-import { MOST } from '../playing/overdraw.js';
+import { MOST } from '../costs/overdraw.js';
 import { cellText } from './pixel_panel.js';
+import { deepPixel } from '../views/pixels.js';
 
 export class PlaceLine {
     /** @param {Views} views */
@@ -26,6 +27,8 @@ export class PlaceLine {
         const { x, y, index, value } = look.cellAt(place.x, place.y), cell = value ?? app.cells[y * 1024 + x];
         const pixel = `pixel ${at}  `, texel = `texel ${at}${index === undefined ? '' : ` index ${index}`}  `;
         const from = { memory: '', drawn: pixel, picture: pixel, texture: texel }[name];
+        const deep = name === 'picture' && deepPixel(app.picture, app.registers, place);
+        if (deep) return `${pixel}${deep.text}  cells (${x}, ${y}) and (${x + 1 & 1023}, ${y})`;
         const there = side.cellAt(place.x, place.y), times = counts?.[y * 1024 + x];
         return `${from}cell (${x}, ${y})  ${cellText(cell)}${there === null ? '' : `  there ${hex(there, 4)}`}`
             + (counts ? `  drawn ${times}${times === MOST ? ' or more' : ''} times in this frame` : '');

@@ -60,7 +60,7 @@ export class Out {
         const { app, views } = this, image = pageWithAlpha(app.cells, views.choice.how(rowHere(app)));
         const canvas = Object.assign(made('canvas'), { width: image.width, height: image.height });
         canvas.getContext('2d').putImageData(image, 0, 0);
-        save([await new Promise(go => canvas.toBlob(go))], `${this.base}-texture.png`, 'image/png');
+        save([await new Promise(go => canvas.toBlob(go))], `${this.base}-texture-alpha.png`, 'image/png');
     }
 
     async vram() { save([this.app.cells], `${this.base}.vram`); }

@@ -109,9 +109,10 @@ export class Timeline {
     draw() {
         const { app } = this, { recording, at, starts } = app;
         if (!recording) return;
-        const place = addressOf(recording, at), frame = frameSeen(starts, at);
+        const { frames } = app, place = addressOf(recording, at), frame = frameSeen(starts, at, frames);
         element('time').value = at;
-        element('time').setAttribute('aria-valuetext', `event ${place}, frame ${frame} of ${starts.length}`);
+        const frameText = frames ? `frame ${frame + 1} of ${frames}` : 'no frame';
+        element('time').setAttribute('aria-valuetext', `event ${place}, ${frameText}`);
         const field = element('event');
         if (document.activeElement !== field) field.value = place;
         field.removeAttribute('aria-invalid');

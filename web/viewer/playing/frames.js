@@ -1,16 +1,33 @@
-// Frames: what is between two display starts, or between two marks. Frame 0 is what comes before the first of them.
+// Frames: each ends with a display start, or with a mark; what follows the last one is a frame too if it has a packet.
+// docs/CAPTURE.md#frames has the rule. They are shown numbered from 1; the code counts them from 0.
 
 import { lastUpTo } from '../numbers.js';
 
 /**
- * Returns the frame that is drawn at a place. Exactly at its end a frame is still the one that is seen.
- * @param {number[]} starts the steps at which frames begin
- * @param {number} at the place, in steps
+ * Returns the number of frames.
+ * @param {Recording} recording
+ * @param {number[]} ends the steps that end frames: flips or marks
  * @returns {number}
  */
-export function frameSeen(starts, at) {
-    const frame = lastUpTo(starts, at - 1) + 1;
-    return frame > 0 && starts[frame - 1] === at - 1 ? frame - 1 : frame;
+export function frameCount({ rows }, ends) {
+    const last = ends.length > 0 ? ends[ends.length - 1] : -1;
+    for (let row = rows.length - 1; row >= 0 && rows.done[row] > last; row--) {
+        if (rows.isPacket(row)) return ends.length + 1;
+    }
+    return ends.length;
+}
+
+/**
+ * Returns the frame that is drawn at a place. Exactly at its end a frame is still the one that is seen.
+ * @param {number[]} ends the steps that end frames
+ * @param {number} at the place, in steps
+ * @param {number} count of frames: what follows the last one without a packet is counted to it
+ * @returns {number} from 0
+ */
+export function frameSeen(ends, at, count = Infinity) {
+    const frame = lastUpTo(ends, at - 1) + 1;
+    const seen = frame > 0 && ends[frame - 1] === at - 1 ? frame - 1 : frame;
+    return Math.max(0, Math.min(seen, count - 1));
 }
 
 /**

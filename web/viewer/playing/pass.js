@@ -1,5 +1,6 @@
 // Plays a recording once from its start, slice by slice: keeps the state before a slice, and plays it with the machine's
-// notes, which give the areas of its packets. It can be stopped and gone on with.
+// notes, which give the areas of its packets. The words that are read are kept in the track. It can be stopped and gone on
+// with.
 
 import { KIND, NO_AREA } from '../reading/rows.js';
 import { playOther, toStart } from './player.js';
@@ -46,9 +47,14 @@ export class Pass {
         while (this.at < to) {
             const run = track.run(this.at, to);
             if (run.length > 0) this.write(machine.gp0NotesView(run), this.at);
-            else playOther(machine, track.kind(this.at), track.word(this.at));
+            else this.playOther(machine, track);
             this.at += run.length || 1;
         }
+    }
+
+    playOther(machine, track) {
+        const read = playOther(machine, track.kind(this.at), track.word(this.at));
+        if (read !== undefined) track.setWord(this.at, read);
     }
 
     // Puts areas into the rows of the items that are told of; places count from this step.

@@ -2,12 +2,12 @@
 
 import { STEP } from '../reading/track.js';
 
-/** Plays one step that is not a word for GP0. */
+/** Plays one step that is not a word for GP0. Returns the word that it reads, as `play` writes it; else undefined. */
 export function playOther(machine, kind, word) {
-    if (kind === STEP.GP1) machine.gp1(word);
-    else if (kind === STEP.READ) machine.read();
-    else if (kind === STEP.STAT) machine.status();
-    else machine.skip();
+    if (kind === STEP.READ) return machine.read();
+    if (kind === STEP.STAT) return machine.status();
+    if (kind === STEP.GP1) machine.gp1(word); else machine.skip();
+    return undefined;
 }
 
 /** Plays the steps from one place to another. */

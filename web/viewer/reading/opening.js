@@ -36,12 +36,16 @@ async function streamOf(blob, taken) {
     return { packing, stream: packing ? counted.pipeThrough(unpacking(packing)) : counted };
 }
 
-/** The bytes of a file, piece by piece, as those of a capture or snapshot: unpacked, and translated if it is a GPU dump. */
-export async function* bytesOf(blob, taken = () => {}) {
+/**
+ * The bytes of a file, piece by piece, as those of a capture or snapshot: unpacked, and translated if it is a GPU dump.
+ * `about.isDump` says then whether it is one.
+ */
+export async function* bytesOf(blob, taken = () => {}, about = {}) {
     const pieces = unpackedOf(blob, taken);
     try {
         const first = await gather(pieces, new Uint8Array(0), DUMP_HEADER);
-        if (isDump(first)) yield* captureOf(first, pieces);
+        about.isDump = isDump(first);
+        if (about.isDump) yield* captureOf(first, pieces);
         else {
             yield first;
             yield* pieces;
@@ -145,9 +149,10 @@ function begin(name, bytes, library) {
  * the fault, where there is one.
  */
 export async function openFile(blob, name, library, { progress = () => {}, signal = null } = {}) {
-    const pieces = bytesOf(blob, count => progress(count / blob.size));
+    const about = {}, pieces = bytesOf(blob, count => progress(count / blob.size), about);
     const started = await start(name, pieces, library);
     const { recording, sink, answers } = started;
+    recording.isDump = about.isDump;
     try {
         await takeAll(started, pieces, signal);
     } catch (fault) {

@@ -1,8 +1,8 @@
 // Takes a capture apart as its bytes come. The content of its records goes to a sink, record by record.
 
+import { KIND, isAllowed } from './allowed.js';
 import { Refusal } from './refusal.js';
 
-const KIND = { END: 0, RAM: 1, GP0: 2, GP1: 3, READ: 4, STAT: 5, DMA: 6, BEGIN: 7, TURN: 8, SKIP: 9 };
 const HEADS = ['PSXGPUC1', 'PSXGPUC2', 'PSXGPUC3', 'PSXGPUS1'];
 const LIMIT = 2 ** 30;
 const RAM_BYTES = 0x200000;
@@ -15,20 +15,6 @@ export function headOf(bytes) {
     let byte = 0;
     while (HEADS.some(head => head.startsWith(text.slice(0, byte + 1)))) byte++;
     throw new Refusal('not-capture', 1, { byte });
-}
-
-function isAllowed(kind, count, version) {
-    switch (kind) {
-    case KIND.END: return count === 0;
-    case KIND.RAM: return count >= 1 && count <= 524288;
-    case KIND.GP0: return count >= 1;
-    case KIND.GP1: case KIND.STAT: return count === 1;
-    case KIND.READ: return count >= 1 && count <= 262144;
-    case KIND.DMA: return count === 2 || count === 6;
-    case KIND.BEGIN: return version > 1 && count === 2;
-    case KIND.TURN: case KIND.SKIP: return version > 1 && count >= 1 && count <= 262144;
-    default: return false;
-    }
 }
 
 export class RecordReader {

@@ -13,15 +13,23 @@ export class Receiver {
     /**
      * @param {Blob} file
      * @param {string} name
-     * @param {{example: string}} from the example that it is, if it is one
+     * @param {{example: string, isDropped: boolean}} from the example that it is, or whether it was dropped
      */
     async open(file, name, from = {}) {
-        const { app, compare } = this, kind = await pictureKind(file);
+        const { app, compare } = this, kind = await pictureKind(file), before = app.recording;
         if (kind) {
             app.say(`${name} is ${kind}, and not a recording. Compare shows where it differs from what is seen here.`,
                 app.recording && { text: 'Compare it', does: () => { app.say(''); compare.open(file, name); } });
         } else if (await app.open(file, name, from)) {
             element('list').focus({ preventScroll: true });
+            if (from.isDropped && before) this.tellOfSecond(before);
         }
+    }
+
+    // A recording was dropped while another was open: it may have been meant for Compare.
+    tellOfSecond(before) {
+        const { app, compare } = this, { name, what } = app.recording;
+        app.say(`${name} (${what}) is open now in place of ${before.name}.`, { text: `Compare it with ${before.name}`,
+            does: () => { app.say(''); compare.open(before.source, before.name); } });
     }
 }

@@ -24,6 +24,12 @@ export class Recording {
 
     get length() { return this.track.length; }
 
+    /** What the file is. */
+    get what() {
+        if (this.isDump) return 'GPU dump';
+        return this.start ? 'snapshot' : `capture, version ${this.version}`;
+    }
+
     get flips() { return this.splitter.flips; }
 
     get marks() { return this.splitter.marks; }

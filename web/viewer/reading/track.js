@@ -62,6 +62,8 @@ export class Track {
 
     word(step) { return this.words[step >> 20][step & MASK]; }
 
+    setWord(step, word) { this.words[step >> 20][step & MASK] = word; }
+
     // The number of the event that made a step.
     event(step) {
         if (!this.numbers || step < this.apart) return this.before + step + 1;

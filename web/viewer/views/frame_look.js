@@ -1,16 +1,16 @@
 // What is seen of a whole frame: the wireframe of its primitives, and how often it draws each cell up to this place.
 
 import { frameSeen, rowsOfFrame } from '../playing/frames.js';
-import { Overdraw } from '../playing/overdraw.js';
+import { Overdraw } from '../costs/overdraw.js';
 import { Wire } from './wire.js';
 
 export class FrameLook {
-    /** @param {App} app */
+    /** @param {{recording: Recording, starts: number[], at: number, row: number, frames: number, library: object}} app */
     constructor(app) { Object.assign(this, { app, wire: new Wire(), overdraw: new Overdraw(app.library) }); }
 
     get rows() {
         const { recording, starts, at } = this.app;
-        return rowsOfFrame(recording, starts, frameSeen(starts, at));
+        return rowsOfFrame(recording, starts, frameSeen(starts, at, this.app.frames));
     }
 
     /** Returns pairs of points, in cells, of all primitives of the frame. */

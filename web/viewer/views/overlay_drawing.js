@@ -2,6 +2,7 @@
 
 import { OVERLAYS, boxesOf, drawBoxes, drawOutline, drawPoints } from './overlays.js';
 import { drawLines } from './wire.js';
+import { texelBox, texelCorners } from '../reading/texels.js';
 
 const DIFFERENCE = '#ff40ff', LEAST = 14;
 
@@ -43,12 +44,15 @@ export function drawDifference(context, view, { app, name, look }) {
         { color: DIFFERENCE, place });
 }
 
-/** Draws the part of the texture page that the packet names by its texture coordinates. */
-export function drawTexels(context, view, { here, on }) {
-    const { packet } = here ?? {};
-    if (!on.packet || !packet?.page) return;
-    const color = OVERLAYS[0].color, [{ u, v }] = packet.vertices;
-    const place = (x, y) => ({ x, y });
-    if (packet.size) drawBoxes(context, view, [{ x: u, y: v, ...packet.size }], { color, place });
-    else drawPoints(context, view, packet.vertices.map(vertex => ({ x: vertex.u, y: vertex.v })), color);
+/**
+ * Draws the texels that the packet reads: their box, and the corners of a polygon in it. Under a texture window there
+ * are no corners if the texture is repeated.
+ */
+export function drawTexels(context, view, { here, on, app }) {
+    const { packet } = here ?? {}, box = texelBox(packet, app.registers);
+    if (!on.packet || !box) return;
+    const color = OVERLAYS[0].color, place = (x, y) => ({ x, y }), corners = texelCorners(packet, app.registers);
+    const part = { x: box.u1, y: box.v1, w: box.u2 - box.u1 + 1, h: box.v2 - box.v1 + 1 };
+    if (packet.size || !corners) drawBoxes(context, view, [part], { color, place });
+    else drawPoints(context, view, corners, color);
 }

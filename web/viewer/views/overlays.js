@@ -3,6 +3,7 @@
 import { made } from '../panels/dom.js';
 import { KIND } from '../reading/rows.js';
 import { offsetOf, placeOf, windowOf } from '../reading/fields.js';
+import { windowedSpan } from '../reading/texels.js';
 
 export const OVERLAYS = [
     { name: 'packet', label: 'packet', color: '#ff4d6d', on: true },
@@ -53,8 +54,8 @@ function textureBoxes({ page, palette }, { maskX, maskY, x, y }, height) {
     const boxes = { page: wrapped(boxOf(page.x, page.y, 256 / perCell, 256), height) };
     if (page.depth < 15) boxes.palette = wrapped(boxOf(palette.x, palette.y, colors, 1), height);
     if (maskX || maskY) {
-        const [left, top] = [page.x + (x & maskX) / perCell, page.y + (y & maskY)];
-        boxes.window = [boxOf(left, top, (256 - maskX) / perCell, 256 - maskY)];
+        const [left, right] = windowedSpan([0, 255], maskX, x), [top, low] = windowedSpan([0, 255], maskY, y);
+        boxes.window = [boxOf(page.x + left / perCell, page.y + top, (right - left + 1) / perCell, low - top + 1)];
     }
     return boxes;
 }

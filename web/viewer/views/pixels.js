@@ -31,6 +31,16 @@ export function imageOfBox(cells, { x, y, w, h }) {
     return new ImageData(new Uint8ClampedArray(pixels.buffer), w, h);
 }
 
+/** Returns a box of an image, inside of it. */
+export function imagePart(image, { x, y, w, h }) {
+    const from = new Uint32Array(image.data.buffer), pixels = new Uint32Array(w * h);
+    for (let row = 0; row < h; row++) {
+        const at = (y + row) * image.width + x;
+        pixels.set(from.subarray(at, at + w), row * w);
+    }
+    return new ImageData(new Uint8ClampedArray(pixels.buffer), w, h);
+}
+
 export const imageOfPicture = ({ bytes, width, height }) => new ImageData(bytes, width, height);
 
 /** The cell of a texel of a page, and the texel's value. */
@@ -67,6 +77,20 @@ export function imageOfPage(cells, how) {
 
 /** Returns a texture page as an image in which texels of value 0 have alpha 0. */
 export const pageWithAlpha = (cells, how) => imageOfTexels(cells, how, ({ value }) => value === 0 ? 0 : RGBA[value]);
+
+/**
+ * Returns the colour of a pixel of a picture of 24 bits; null if the picture has 15 bits a pixel, or no such pixel.
+ * @param {{bytes: Uint8ClampedArray, width: number, height: number} | null} picture
+ * @param {ArrayLike<number>} registers
+ * @param {{x: number, y: number}} pixel
+ * @returns {{hex: string, text: string} | null}
+ */
+export function deepPixel(picture, registers, { x, y }) {
+    if (!picture || !shownBy(registers, 512).deep || x >= picture.width || y >= picture.height) return null;
+    const at = 4 * (y * picture.width + x), [r, g, b] = picture.bytes.subarray(at, at + 3);
+    const hex = [r, g, b].map(byte => byte.toString(16).padStart(2, '0')).join('');
+    return { hex, text: `${hex}  red ${r}, green ${g}, blue ${b} of 24 bits` };
+}
 
 /** Where the shown picture is in video memory: the cell that a pixel begins in, and the pixel that a cell begins. */
 export function shownBy(registers, height) {

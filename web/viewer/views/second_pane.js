@@ -4,6 +4,9 @@ import { drawDifference } from './overlay_drawing.js';
 import { element } from '../panels/dom.js';
 import { lookOf } from './view_images.js';
 import { PixelView } from './pixel_view.js';
+import { FrameLook } from './frame_look.js';
+import { frameCount } from '../playing/frames.js';
+import { cellsOfCounts } from '../costs/overdraw.js';
 
 export class Side {
     /** @param {Views} views whose view this pane follows */
@@ -19,7 +22,8 @@ export class Side {
 
     /** Shows a second recording; null for none. */
     show(second) {
-        this.second = second;
+        this.frame?.overdraw.close();
+        Object.assign(this, { second, frame: null });
         element('other').hidden = !second;
         element('here').hidden = !second;
     }
@@ -28,10 +32,20 @@ export class Side {
         const { second, views, view } = this;
         if (!second || !views.look) return;
         if (!second.cells) return view.show(null);
-        this.look = lookOf(views.name, second, views.how);
+        this.look = lookOf(views.name, { ...second, cells: this.cells() }, views.how);
         const { scale, x, y, aspect, cursor } = views.view;
         Object.assign(view, { scale, x, y, aspect, cursor });
         view.show(this.look.image, null);
+    }
+
+    // Its cells, or with overdraw how often its frame draws them.
+    cells() {
+        const { second, views: { app, counts } } = this, { recording, at } = second, starts = recording[app.framesBy];
+        if (!counts) return second.cells;
+        const side = { recording, starts, at, row: recording.rows.at(at), frames: frameCount(recording, starts) };
+        if (this.frame?.app.recording !== recording) this.frame = new FrameLook({ ...side, library: app.library });
+        Object.assign(this.frame.app, side);
+        return cellsOfCounts(this.frame.counts());
     }
 
     // What the second recording has at a place of the view: its cell, or null outside of it.

@@ -1,6 +1,9 @@
 // Which texture page is shown: that of the packet, or one that is chosen by depth, page and palette.
 
 import { element } from '../panels/dom.js';
+import { packetOf } from '../reading/packet.js';
+import { pageOf } from '../reading/fields.js';
+import { KIND } from '../reading/rows.js';
 import { texelOf } from './pixels.js';
 
 const FIELDS = ['page', 'palette'];
@@ -15,6 +18,16 @@ function placeIn(id, height) {
     return { x, y };
 }
 
+// The palette of the last textured packet up to a row; (0, 0) if there is none.
+function paletteBefore({ rows, track, height }, row, registers) {
+    for (let at = row; at >= 0; at--) {
+        const kind = rows.kind[at], head = rows.head[at];
+        if ((kind !== KIND.POLYGON && kind !== KIND.RECTANGLE) || (head >>> 26 & 1) === 0) continue;
+        return packetOf(kind, head, rows.words(at, track), { registers, height }).palette;
+    }
+    return { x: 0, y: 0 };
+}
+
 export class TextureChoice {
     /**
      * @param {App} app
@@ -27,11 +40,8 @@ export class TextureChoice {
         element('pick-palette').addEventListener('click', () => this.setPicking(!this.isPicking));
     }
 
-    /** Another recording is open: nothing is known of its pages. */
-    forget() {
-        this.last = { page: { x: 0, y: 0, depth: 15 }, palette: { x: 0, y: 0 } };
-        this.marked = undefined;
-    }
+    /** Another recording is open: nothing is marked in its pages. */
+    forget() { this.marked = undefined; }
 
     /** Returns what the reader chose of depth, page and palette with the rest as drawn; null if nothing is chosen. */
     chosen() {
@@ -91,11 +101,15 @@ export class TextureChoice {
         return out;
     }
 
-    /** Returns how the page is read. If the packet has none, that of the last one that had stays. */
+    /**
+     * Returns how the page is read. If the packet has none, the page is that of the registers at this place, and the
+     * palette that of the last textured packet.
+     */
     how(here) {
-        const { height } = this.app.recording, chosen = this.read(height);
-        if (here?.packet.page) this.last = { page: here.packet.page, palette: here.packet.palette };
-        const { page, palette } = this.last, cut = ({ x, y }) => ({ x, y: y & (height - 1) });
+        const { recording, row, registers } = this.app, { height } = recording, chosen = this.read(height);
+        const page = here?.packet.page ?? pageOf(registers[0], height);
+        const palette = here?.packet.palette ?? paletteBefore(recording, row, registers);
+        const cut = ({ x, y }) => ({ x, y: y & (height - 1) });
         element('page').placeholder = `${page.x},${page.y}`;
         element('palette').placeholder = `${palette.x},${palette.y}`;
         const depth = Number(element('depth').value) || page.depth;

@@ -6,11 +6,14 @@ import { hex } from '../reading/names.js';
 import { EMPTY, lookOf } from './view_images.js';
 import { drawAbove, drawTexels } from './overlay_drawing.js';
 import { FrameLook } from './frame_look.js';
-import { cellsOfCounts } from '../playing/overdraw.js';
+import { comparedImage } from '../comparing/compared_image.js';
+import { cellsOfCounts } from '../costs/overdraw.js';
+import { makeLegend } from '../costs/legend.js';
 import { OVERLAYS, makeToggles } from './overlays.js';
 import { rowHere } from '../panels/packet_panel.js';
 import { PixelView } from './pixel_view.js';
 import { PlaceLine } from '../panels/place_line.js';
+import { deepPixel } from './pixels.js';
 import { Side } from './second_pane.js';
 import { TextureChoice } from './texture_choice.js';
 import { viewFor } from './view_choice.js';
@@ -19,6 +22,10 @@ import { viewFor } from './view_choice.js';
 const zoomOf = name => name === 'drawn' ? 'picture' : name;
 
 const isDark = cell => (cell & 31) * 2 + (cell >> 5 & 31) * 5 + (cell >> 10 & 31) < 124;
+
+// The same for a colour of 24 bits.
+const byteIn = (hex, k) => parseInt(hex.slice(2 * k, 2 * k + 2), 16);
+const isDarkHex = hex => 2 * byteIn(hex, 0) + 5 * byteIn(hex, 1) + byteIn(hex, 2) < 992;
 
 export class Views {
     constructor(app) {
@@ -37,6 +44,7 @@ export class Views {
         this.side = new Side(this);
         this.listen();
         makeToggles(element('overlays'), this.on, name => this.toggled(name));
+        makeLegend(element('legend'));
         this.choose('picture');
     }
 
@@ -49,9 +57,10 @@ export class Views {
         element('wide').addEventListener('click', () => this.setWide(!this.isWide));
         app.on('opened', () => this.opened());
         app.on('arrived', () => { if (this.name === 'picture' && !app.picture) this.choose('memory', true); });
-        app.on('moved', () => { if (!this.follow()) this.draw(); this.reveal(); });
+        app.on('moved', () => { if (!this.follow()) this.draw(); this.reveal(); this.followPixel(); });
         app.on('cell', () => this.draw());
         app.on('second', () => { this.side.show(app.beside?.second ?? null); this.draw(); });
+        app.on('compared', () => this.draw());
         app.on('goto', () => {
             this.choose(app.difference.view);
             this.view.showBox(app.difference.box);
@@ -114,6 +123,14 @@ export class Views {
         return name !== null;
     }
 
+    // The pixel of the picture that was chosen may be another cell now: pictures are drawn into two buffers in turn.
+    followPixel() {
+        const { app, name, view, look } = this, { pixel, cell } = app;
+        if (name !== 'picture' || !pixel || !look?.image || pixel.x >= view.width || pixel.y >= view.height) return;
+        const { x, y } = look.cellAt(pixel.x, pixel.y);
+        if (x !== cell.x || y !== cell.y) app.choose({ x, y }, pixel);
+    }
+
     // After a jump the cursor, or else the packet, is in the view.
     reveal() {
         const { view, app, look } = this, area = this.here?.area;
@@ -133,7 +150,8 @@ export class Views {
         this.look = lookOf(this.name, this.seen(), this.how);
         element('texture-bar').hidden = this.name !== 'texture' && !this.choice.isPicking;
         element('overlays').hidden = !element('texture-bar').hidden;
-        const image = this.isPale ? app.difference.imageOver(app) : this.look.image;
+        element('legend').hidden = !this.counts || element('overlays').hidden;
+        const image = comparedImage(this) ?? this.look.image;
         element('empty').hidden = Boolean(image);
         if (!image) element('empty').textContent = EMPTY[this.name];
         view.aspect = this.aspect;
@@ -149,12 +167,6 @@ export class Views {
         return { cells: this.counts ? cellsOfCounts(this.counts) : cells, picture, registers };
     }
 
-    // Whether what is the same as in the compared file is shown pale.
-    get isPale() {
-        const { difference } = this.app;
-        return difference?.view === this.name && !difference.isBeside && !difference.problem && difference.count > 0;
-    }
-
     cursorOf() {
         const { cell } = this.app;
         if (this.name === 'texture') return this.texel;
@@ -162,6 +174,8 @@ export class Views {
     }
 
     textOf(x, y) {
+        const { picture, registers } = this.app, deep = this.name === 'picture' && deepPixel(picture, registers, { x, y });
+        if (deep) return { text: deep.hex, isDark: isDarkHex(deep.hex) };
         const { x: column, y: row, value } = this.look.cellAt(x, y);
         const cell = value ?? this.app.cells[row * 1024 + column];
         return { text: hex(cell, 4), isDark: isDark(cell) };
@@ -172,7 +186,7 @@ export class Views {
         const { x, y } = this.look.cellAt(place.x, place.y);
         if (this.choice.takes(this.name, { x, y })) return;
         if (this.name === 'texture') this.texel = place;
-        this.app.choose({ x, y });
+        this.app.choose({ x, y }, this.name === 'picture' ? place : null);
     }
 
     // The cursor was moved by keys.

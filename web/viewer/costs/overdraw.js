@@ -1,29 +1,15 @@
-// How often the packets of a frame draw each cell. The machine counts: each packet is drawn again, flat, and adds one
-// step of red (B + F) to the cells that it covers. Texels that are not drawn count as drawn.
+// How often the packets of a frame draw each cell, up to 31 times.
 
-import { PLACING, settingsBefore } from './settings.js';
+import { ADD, MOST, STEPS, WHOLE, covering, vertexWord } from './covering.js';
+import { PLACING, settingsBefore } from '../playing/settings.js';
 import { KIND } from '../reading/rows.js';
 import { shapesOf } from '../views/shapes.js';
 import { isDrawing } from '../panels/stepping.js';
-import { Machine } from './machine.js';
-
-/** What a cell counts to: this many times or more. */
-export const MOST = 31;
-
-const ADD = 0xE1000020, STEP = 8, WHOLE = [0xE3000000, 0xE4000000 | 1023 | 1023 << 10, 0xE5000000];
-const vertexWord = ({ x, y }) => ((x & 0x7FF) | (y & 0x7FF) << 16) >>> 0;
-
-// The words that add one step to the cells of a shape, its vertices being cells.
-function covering({ kind, points, size }) {
-    const vertices = points.map(vertexWord);
-    if (kind === KIND.POLYGON) return [(vertices.length === 4 ? 0x2A000000 : 0x22000000) | STEP, ...vertices];
-    if (kind === KIND.RECTANGLE) return [0x62000000 | STEP, vertices[0], size.w | size.h << 16];
-    return vertices.length === 2 ? [0x42000000 | STEP, ...vertices] : [];
-}
+import { Machine } from '../playing/machine.js';
 
 // The words for a box that the drawing area does not cut: of a fill, a copy or a load.
 function boxWords({ x1, y1, x2, y2 }, area) {
-    return [...WHOLE, 0x62000000 | STEP, vertexWord({ x: x1, y: y1 }), (x2 - x1 + 1) | (y2 - y1 + 1) << 16, ...area];
+    return [...WHOLE, 0x62000000 | STEPS[0], vertexWord({ x: x1, y: y1 }), (x2 - x1 + 1) | (y2 - y1 + 1) << 16, ...area];
 }
 
 /**
@@ -36,13 +22,13 @@ function boxWords({ x1, y1, x2, y2 }, area) {
 function wordsOf(recording, first, end) {
     const { rows } = recording, area = settingsBefore(recording, first, PLACING);
     area[2] = WHOLE[2];
-    const out = [ADD, 0xE6000000, ...area], shapes = shapesOf(recording, first, end);
+    const out = [...ADD, ...area], shapes = shapesOf(recording, first, end);
     let shape = shapes.next().value;
     for (let row = first; row < end; row++) {
         const kind = rows.kind[row], head = rows.head[row], at = [0xE3, 0xE4].indexOf(head >>> 24);
         if (kind === KIND.SETTING && at >= 0) out.push(area[at] = head);
         else if (shape?.row === row) {
-            out.push(...covering(shape));
+            out.push(...covering(shape, STEPS[0]));
             shape = shapes.next().value;
         } else if (isDrawing(rows, row) && rows.area(row)) out.push(...boxWords(rows.area(row), area));
     }
@@ -69,18 +55,35 @@ export class Overdraw {
         Object.assign(this, { recording, key, counts: Uint8Array.from(this.machine.vramView(), cell => cell & MOST) });
         return this.counts;
     }
+
+    close() {
+        this.machine?.close();
+        Object.assign(this, { machine: null, key: '' });
+    }
 }
 
-// From dark blue over green and yellow to white, as colours of 15 bits by how often a cell is drawn.
-const STOPS = [[0, 1, 1, 4], [1, 4, 5, 16], [2, 3, 13, 20], [4, 6, 22, 10], [8, 26, 26, 4], [16, 30, 12, 3],
-    [31, 31, 31, 31]];
-const RAMP = Uint16Array.from({ length: MOST + 1 }, (_, count) => {
+// The scale of `psxgpu heat`: by how often a cell is drawn, red, green and blue.
+const STOPS = [[0, 0, 0, 0], [1, 24, 40, 120], [2, 32, 110, 150], [3, 50, 160, 90], [4, 170, 190, 50], [6, 230, 150, 40],
+    [8, 220, 60, 40], [12, 240, 140, 160], [16, 255, 255, 255]];
+
+/** Returns the colour of a count, as bytes of red, green and blue. */
+export function rampColor(count) {
     const next = STOPS.findIndex(([at]) => at >= count);
+    if (next < 0) return STOPS[STOPS.length - 1].slice(1);
     const [to, ...high] = STOPS[next], [from, ...low] = STOPS[Math.max(0, next - 1)];
     const part = to === from ? 0 : (count - from) / (to - from);
-    const [r, g, b] = low.map((channel, k) => Math.round(channel + part * (high[k] - channel)));
+    return low.map((channel, k) => Math.round(channel + part * (high[k] - channel)));
+}
+
+/** The counts that the legend names. */
+export const LEGEND = STOPS.map(([count]) => count);
+
+const RAMP = Uint16Array.from({ length: MOST + 1 }, (_, count) => {
+    const [r, g, b] = rampColor(count).map(byte => byte >> 3);
     return r | g << 5 | b << 10;
 });
 
 /** Returns counts as cells of the ramp's colours. */
 export const cellsOfCounts = counts => Uint16Array.from(counts, count => RAMP[count]);
+
+export { MOST };

@@ -1,5 +1,7 @@
 // What is compared with what is seen: video memory as `vram` writes it, the picture as `shot` does, or a PNG of one.
 
+import { BIT_15, bandsText, cellSteps, pixelSteps } from './difference_steps.js';
+import { rampColor } from '../costs/overdraw.js';
 import { imageOfCells, imageOfPicture } from '../views/pixels.js';
 
 const DUMPS = [1048576, 2097152];
@@ -24,6 +26,15 @@ function pixelsOfPpm(bytes) {
     }
     return image;
 }
+
+// What differs, bright; and by its size in steps of 31, in the scale of overdraw: bit 15 alone is violet.
+const BRIGHT = 0xFF6D4DFF;
+const STEP_COLORS = Uint32Array.from({ length: 256 }, (_, size) => {
+    const [r, g, b] = size === BIT_15 ? [190, 90, 255] : rampColor(size);
+    return (0xFF000000 | b << 16 | g << 8 | r) >>> 0;
+});
+
+const copyOf = image => new ImageData(new Uint8ClampedArray(image.data), image.width, image.height);
 
 /** Reads a second dump: cells, or pixels with the view that they are of. */
 export async function readDump(blob) {
@@ -64,7 +75,7 @@ export class Difference {
             return;
         }
         this.problem = null;
-        this.compare(own, theirs);
+        this.compare(own, theirs, app.comparing.tolerance);
     }
 
     ownImage(app) {
@@ -73,12 +84,15 @@ export class Difference {
         return picture?.width === this.image.width ? new Uint32Array(picture.bytes.buffer) : null;
     }
 
-    compare(own, theirs) {
-        this.differs = new Uint8Array(own.length);
+    // Compares cells or pixels. Those that are at most `tolerance` steps apart count as equal.
+    compare(own, theirs, tolerance) {
+        const stepsOf = this.cells ? cellSteps : pixelSteps;
+        this.steps = new Uint8Array(own.length);
         let count = 0, first = -1, x1 = this.width, y1 = Infinity, x2 = -1, y2 = -1;
         for (let k = 0; k < own.length; k++) {
-            if (own[k] === theirs[k]) continue;
-            this.differs[k] = 1;
+            const size = own[k] === theirs[k] ? 0 : stepsOf(own[k], theirs[k]);
+            if (size <= tolerance) continue;
+            this.steps[k] = size;
             if (count++ === 0) first = k;
             const x = k % this.width, y = (k - x) / this.width;
             x1 = Math.min(x1, x); x2 = Math.max(x2, x);
@@ -93,15 +107,26 @@ export class Difference {
         this.box = { x1, y1, x2, y2 };
     }
 
-    // What is seen, pale, with the differing pixels bright.
-    imageOver(app) {
+    /** How many differ by how much, in words. */
+    get bands() { return bandsText(this.steps, Boolean(this.cells)); }
+
+    /**
+     * Returns an image in place of what is seen.
+     * @param {'theirs' | 'pale' | 'steps'} as the compared file; what is seen, pale, with what differs bright; or what
+     *     differs in colours by its size, the rest dark
+     * @param {App} app
+     * @returns {ImageData | null}
+     */
+    imageAs(as, app) {
+        if (as === 'theirs') return this.cells ? imageOfCells(this.cells) : copyOf(this.image);
         const image = this.view === 'memory' ? imageOfCells(app.cells)
             : app.picture && imageOfPicture({ ...app.picture, bytes: app.picture.bytes.slice() });
-        if (!image || this.problem || this.count === 0) return image;
-        const pixels = new Uint32Array(image.data.buffer);
+        if (!image) return null;
+        const pixels = new Uint32Array(image.data.buffer), [part, least, colorOf] = as === 'pale' ? [9, 24, () => BRIGHT]
+            : [18, 8, size => STEP_COLORS[this.cells ? size : size === 0 ? 0 : Math.max(1, size >> 3)]];
         for (let k = 0; k < pixels.length; k++) {
-            const grey = ((pixels[k] & 255) + (pixels[k] >> 8 & 255) + (pixels[k] >> 16 & 255)) / 9 + 24;
-            pixels[k] = this.differs[k] ? 0xFF6D4DFF : (0xFF000000 | grey << 16 | grey << 8 | grey) >>> 0;
+            const grey = ((pixels[k] & 255) + (pixels[k] >> 8 & 255) + (pixels[k] >> 16 & 255)) / part + least;
+            pixels[k] = this.steps[k] ? colorOf(this.steps[k]) : (0xFF000000 | grey << 16 | grey << 8 | grey) >>> 0;
         }
         return image;
     }

@@ -1,13 +1,15 @@
 // What the panel Compare does with a second recording: both side by side, step by step, and where they part.
 
 import { rowAddress, addressOf } from '../playing/address.js';
-import { Difference } from '../playing/compare.js';
-import { Diverge } from '../playing/diverge.js';
-import { button, counted, element, grouped, made, tableOf } from './dom.js';
+import { Difference } from './compare.js';
+import { Diverge } from './diverge.js';
+import { button, counted, element, grouped, made, tableOf } from '../panels/dom.js';
 import { Machine } from '../playing/machine.js';
 import { hex, nameOf } from '../reading/names.js';
 import { Player } from '../playing/player.js';
-import { Second, samePlace } from '../playing/second.js';
+import { SamePlace, Second } from './second.js';
+import { wordApart } from '../reading/word_fields.js';
+import { imageOfPicture } from '../views/pixels.js';
 
 export class SecondPanel {
     /**
@@ -16,7 +18,7 @@ export class SecondPanel {
      * @param {() => void} leave ends the comparison
      */
     constructor(app, panel, leave) {
-        Object.assign(this, { app, panel, leave, second: null, parting: null, told: '' });
+        Object.assign(this, { app, panel, leave, second: null, parting: null, told: '', places: new SamePlace() });
     }
 
     // A recording with the starts of its frames.
@@ -72,11 +74,24 @@ export class SecondPanel {
     follow() {
         const { app, second } = this;
         if (!second || !app.recording) return;
-        second.show(samePlace({ ...this.side(app.recording), at: app.at }, this.side(second.recording)));
+        second.show(this.places.find({ ...this.side(app.recording), at: app.at }, this.side(second.recording)));
         app.difference = second.cells && new Difference({ view: 'memory', cells: second.cells }, second.recording.name, true);
         app.difference?.look(app);
+        this.caption();
+    }
+
+    /** Writes what both sides show. */
+    caption() {
+        const { app, second } = this;
+        if (!second || !app.recording) return;
         element('here').textContent = `${app.recording.name}  ${addressOf(app.recording, app.at)}`;
         element('there').textContent = `${second.recording.name}  ${addressOf(second.recording, second.at)}`;
+    }
+
+    /** Returns the picture of the second recording, or null. */
+    pictureImage() {
+        const { picture } = this.second;
+        return picture && imageOfPicture(picture);
     }
 
     draw() {
@@ -88,6 +103,7 @@ export class SecondPanel {
             ['with', second.recording.name],
             ['place there', addressOf(second.recording, second.at)],
             ['differs here', differ],
+            count > 0 && ['by steps', app.difference.bands],
             ...(told ? [['looking', told]] : this.partingRows()),
         ]), ...(count ? [button('Go to it', () => app.tell('goto'))] : []), button('Leave', () => this.leave()));
     }
@@ -95,23 +111,37 @@ export class SecondPanel {
     partingRows() {
         const { parting } = this;
         if (!parting) return [];
-        const { row, frame, rowA, rowB } = parting;
-        if (row < 0 && frame < 0) return [['all words', 'are the same']];
+        const { apart, frame, rowA, rowB } = parting;
+        if (!apart && frame < 0) return [['all words', 'are the same']];
         return [
-            row >= 0 && ['first words', ...this.pair(row, row)],
-            ['first frame', frame < 0 ? 'none: all are the same' : frame === 0 ? 'before the first' : grouped(frame)],
+            apart && ['first words', ...this.pair(apart.rowA, apart.rowB)],
+            ...(apart ? this.wordRows(apart) : []),
+            ['first frame', frame < 0 ? 'none: all are the same' : grouped(frame + 1)],
             rowA !== undefined && ['first packet', ...this.pair(rowA, rowB)],
         ];
+    }
+
+    // The first word in which the two rows differ, and its fields that do.
+    wordRows({ rowA, rowB }) {
+        const sides = [[this.app.recording, rowA], [this.second.recording, rowB]];
+        if (sides.some(([{ rows }, row]) => row >= rows.length)) return [];
+        const found = wordApart(...sides.map(([recording, row]) => ({ kind: recording.rows.kind[row],
+            head: recording.rows.head[row], words: recording.wordsOf(row), height: recording.height })));
+        if (!found) return [['first word', 'they are not packets of one kind and length']];
+        const [ours, theirs] = found.words.map(word => hex(word));
+        return [[`word ${found.index + 1}`, made('span', 'mono', ours), ' here, ', made('span', 'mono', theirs), ' there'],
+            ...(found.fields.length ? found.fields.map(({ name, texts }) => [name, `${texts[0]} here, ${texts[1]} there`])
+                : [['fields', 'the same: only bits without effect differ']])];
     }
 
     // A row here and one there, each with its address; the one here is gone to.
     pair(rowA, rowB) {
         const { app, second } = this;
-        const text = (recording, row) => row >= recording.rows.length ? 'its end'
+        const text = (recording, row) => row < 0 ? 'none' : row >= recording.rows.length ? 'its end'
             : `${rowAddress(recording, row)} ${nameOf(recording.rows.kind[row], recording.rows.head[row])} `
                 + hex(recording.rows.head[row]);
-        const last = Math.min(rowA, app.recording.rows.length - 1);
-        return [button(`here ${text(app.recording, rowA)}`, () => app.seekRow(last)), made('br'),
+        const last = Math.min(rowA, app.recording.rows.length - 1), here = `here ${text(app.recording, rowA)}`;
+        return [last < 0 ? here : button(here, () => app.seekRow(last)), made('br'),
             `there ${text(second.recording, rowB)}`];
     }
 }
