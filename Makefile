@@ -1,4 +1,5 @@
 # make run builds the program and plays an example; make test passes all tests; make bench measures the program.
+# make try CAPTURE=FILE COMMAND=shot > OUT plays a capture within two minutes, by a build that is not proved.
 # make lib builds the library for C and Python into out/, make web the module and the pages for browsers into web/out/ and
 # the viewer, web/viewer.html.
 # make plugin builds the recorder and a GPU plugin for emulators over that library, in recorder/out/.
@@ -8,16 +9,19 @@
 # alone, and make lib-v3 the shared library for them. If that is installed, the loader of glibc takes it by itself.
 # make ARCH=aarch64 GOAL does the same for Linux on arm64, where GOAL is run, lib, install, uninstall, dist or deb.
 # make macos, make windows and make wasi build for these systems (systems/systems.mk); make dist-all makes all packages.
-.PHONY: run test bench lib lib-v3 plugin web viewer install install-library uninstall dist deb dist-all
+.PHONY: run try test bench lib lib-v3 plugin web viewer install install-library uninstall dist deb dist-all
 
 VERSION := $(shell cat VERSION 2> /dev/null)
 EXAMPLE = examples/two-fills.capture
+CAPTURE = $(EXAMPLE)
+COMMAND = shot
 BUILT = crates/psxgpu_tool/out
 PLAYER = $(if $(CPU),$(BUILT)/$(CPU)/psxgpu_tool,$(BUILT)/psxgpu_tool)
 PLAY = $(PLAYER)
 PROVED = crates/psxgpu_c/out/libpsxgpu_c.a
 ARCHIVE = $(PROVED)
 OUT = out
+FIRST = $(OUT)/first-picture.ppm
 NEWER = $(OUT)/glibc-hwcaps/x86-64-v3
 SONAME = libpsxgpu.so.$(firstword $(subst ., ,$(VERSION)))
 SOURCES := $(shell find crates -name out -prune -o \( -name '*.rt' -o -name '*.antt' \) -print)
@@ -34,10 +38,20 @@ CFLAGS = -O2
 include systems/systems.mk
 .DEFAULT_GOAL = run
 
-run: $(PLAYER)
+# Where there is no program yet, a picture comes first, by a build that is not proved. The proved program has to write
+# the same bytes.
+run:
+	@[ -e $(BUILT)/psxgpu_tool ] || [ -e $(FIRST) ] || ! python3 -m proving.unproved --first-picture $(EXAMPLE) $(FIRST) || \
+	  python3 -m psxgpu picture $(FIRST) two-fills.png
+	@$(MAKE) -s $(PLAYER)
 	@$(PLAY) shot < $(EXAMPLE) > two-fills.ppm
 	@python3 -m psxgpu picture two-fills.ppm two-fills.png
 	@echo "two-fills.ppm, two-fills.png: a blue screen of 320 by 240 with a red square in it"
+	@[ ! -e $(FIRST) ] || { cmp $(FIRST) two-fills.ppm && rm $(FIRST) && \
+	  echo "The proved program writes the bytes of the first picture."; }
+
+try:
+	@python3 -m proving.unproved $(COMMAND) < "$(CAPTURE)"
 
 $(BUILT)/psxgpu_tool: $(SOURCES)
 	@python3 -m proving.progress $(JOBS)
@@ -104,7 +118,8 @@ web: web/out/index.html web/out/conformance.html viewer
 web/out/psxgpu.wasm: out/wasi/psxgpu_c.o web/build.py $(WASM) c/text.c c/psxgpu.h
 	python3 -m web.build module
 
-web/out/index.html: web/out/psxgpu.wasm $(wildcard web/*.js) web/index.html
+web/out/index.html: web/out/psxgpu.wasm $(wildcard web/*.js) $(wildcard web/film_page/*) \
+  $(wildcard web/viewer/*/*.js)
 	python3 -m web.build page
 
 web/out/conformance.html: web/out/index.html $(wildcard web/suite_page/*) $(wildcard psxgpu/conformance/*.py) \

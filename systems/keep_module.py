@@ -62,6 +62,7 @@ def words_of(crate: str, folder: str, processor: str, made: str) -> List[str]:
 
 def keep(crate: str, processor: str) -> None:
     """Builds a crate and keeps its module. Ends this program if the crate is not proved; then no file is new."""
+    print('The kit compiles %s for %s: about a minute.' % (crate, processor), flush=True)
     made, kept = module(crate, processor, '.o' if crate == 'psxgpu_tool' else '.a'), module(crate, processor, '.bc')
     with tempfile.TemporaryDirectory(dir=MODULES) as folder:
         part = os.path.join(folder, 'module.bc')

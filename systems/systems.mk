@@ -44,7 +44,8 @@ $(MODULES)/psxgpu_c-%.bc: $(PROVED)
 
 $(MODULES)/psxgpu_c-%.a: $(MODULES)/psxgpu_c-%.bc ;
 
-.PRECIOUS: $(MODULES)/%.bc
+# A pattern here has to be that of the rule.
+.PRECIOUS: $(MODULES)/psxgpu_tool-%.bc $(MODULES)/psxgpu_c-%.bc
 
 systems: macos windows wasi
 

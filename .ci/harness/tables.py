@@ -78,7 +78,6 @@ def kind_copies() -> List[Copy]:
         return {number: name for name, number in found.items() if name in names}
     return [Copy('psxgpu/records.py', lambda: numbered(names)),
             *in_scripts('const KIND = { END', lambda path: by_number(js_value(path, 'KIND', 'KIND'))),
-            *in_scripts('const [END, RAM', lambda path: by_number(js_value(path, 'END', '{%s}' % ', '.join(names)))),
             Copy(RECORDER, lambda: by_number(c_constants(RECORDER, 'PSXGPU_')), False),
             Copy('docs/CAPTURE.md', document_kinds)]
 
