@@ -1,7 +1,8 @@
 #!/usr/bin/env python3
 """A player with a fault that an emulator has: MAME knows no dither.
 
-    python3 examples/no_dither.py < mine.capture > dump
+    python3 examples/no_dither.py vram < mine.capture > dump
+    python3 examples/no_dither.py play < mine.capture
 
 It gives psxgpu_tool the same capture with bit 9 of each E1h cleared.
 """
@@ -36,4 +37,4 @@ def without_dither(stream):
 
 if __name__ == '__main__':
     data = without_dither(Stream(sys.stdin.buffer, 'standard input'))
-    sys.exit(subprocess.run([player.find(), 'vram'], input=data).returncode)
+    sys.exit(subprocess.run([player.find(), *(sys.argv[1:] or ['vram'])], input=data).returncode)

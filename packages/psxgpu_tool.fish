@@ -19,7 +19,7 @@ function __psxgpu_is_value
 end
 
 complete -c psxgpu -n __fish_use_subcommand -f -a 'agree audit bisect check compare conform corpus diff film first from-dump \
-    from-log heat help join mend packets picture reduce selftest textures to-dump to-exe trim'
+    from-log fuzz heat help join mend packets picture reduce selftest textures to-dump to-exe trim'
 complete -c psxgpu -n '__fish_seen_subcommand_from corpus; and test (count (commandline -opc)) -eq 2' -f \
     -a 'record check join split glue'
 complete -c psxgpu -n 'string match -q -- "-*" (commandline -ct)' -f -a '(__psxgpu_options)'

@@ -4,15 +4,21 @@
 values of an option that has some, `psxgpu --version` prints the version.
 Status: 0 equal, or done; 1 different, or something to look at; 2 an error, with one line on standard error.
 """
-import os
-import signal
+from __future__ import annotations
+
 import sys
-from types import ModuleType
-from typing import List, Optional
+
+TYPE_CHECKING = False       # until `main` has the signals, Ctrl-C ends in a traceback: nothing that takes time loads
+if TYPE_CHECKING:
+    import signal
+    from types import ModuleType
+    from typing import List, Optional
+else:
+    import _signal as signal        # the part of signal in C
 
 TOOLS = ('corpus', 'packets', 'check', 'first', 'trim', 'join', 'mend', 'from-log', 'from-dump', 'to-dump', 'to-exe',
-         'picture', 'film', 'textures', 'heat', 'diff', 'compare', 'bisect', 'agree', 'audit', 'reduce', 'conform',
-         'selftest')
+         'picture', 'film', 'textures', 'heat', 'diff', 'compare', 'bisect', 'agree', 'audit', 'reduce', 'fuzz',
+         'conform', 'selftest')
 
 
 def module_of(name: str) -> ModuleType:
@@ -57,6 +63,7 @@ def print_values(tool: str, option: str) -> None:
 
 def answer(name: str) -> None:
     """Prints the help or the version. Raises ToolError for another word."""
+    import os
     from psxgpu import __version__
     from psxgpu.errors import ToolError
     if name in ('-h', '--help', 'help'):

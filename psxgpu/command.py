@@ -1,7 +1,8 @@
 """What all tools share: how they are called, how they end, and how they read files. `psxgpu.output` writes them.
 
 A tool is a module of `psxgpu.commands` with a text (`__doc__`), `arguments(parser)`, which adds its arguments, and
-`run(words)`, which does the work and returns a status. Statuses are those of `cmp`: 0 the same, or done; 1 different;
+`run(words)`, which does the work and returns a status. `complete(words)`, if it has that, is called before the roles of
+the arguments are checked. Statuses are those of `cmp`: 0 the same, or done; 1 different;
 2 an error. An error is one line on standard error: the tool, the file if there is one, and the reason.
 """
 import argparse
@@ -92,6 +93,7 @@ def status_of(module: Command, name: str, words: Optional[Sequence[str]]) -> Opt
     parser = parser_of(module, name)
     try:
         found = parser.parsed(sys.argv[1:] if words is None else words)
+        getattr(module, 'complete', lambda _: None)(found)
         roles = list(roles_in(found))
         check(roles)
         is_taken = takes_standard_output(roles)

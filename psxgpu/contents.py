@@ -8,29 +8,27 @@ from psxgpu.command import Readable, ToolError, reading
 from psxgpu.errors import counted
 from psxgpu.players import player
 from psxgpu.players.flat import flattened
+from psxgpu.players.numbering import Ends
 from psxgpu.snapshot import unfinished
-from psxgpu.stream import GP1, HEADS, KINDS, Stream, count_of, encode, first_events
+from psxgpu.stream import HEADS, KINDS, Stream, count_of, encode, first_events
 
-DISPLAY_START = 5
 TAP = re.compile(rb'tap 0((?: \d+)+)\n')      # the first line of `report`
 CLASSES = ('fills and words that do nothing', 'polygons', 'segments of lines', 'rectangles', 'copies', 'loads',
            'stores', 'settings', 'ends of polylines', 'data words of loads')
 
 
 class Count:
-    """The events of a capture by kind, its frames, and the error that ends it."""
+    """The events of a capture by kind, and the error that ends it."""
 
     def __init__(self, path: str, name: str) -> None:
         self.by_kind: Dict[int, int] = {}
-        self.frames = 0
         self.error: Optional[str] = None
         with reading(path) as file:
             stream = Stream(file, name)
             self.version = stream.version
             try:
-                for kind, count, words in stream:
+                for kind, count, _ in stream:
                     self.by_kind[kind] = self.by_kind.get(kind, 0) + count_of(kind, count)
-                    self.frames += kind == GP1 and words[0] >> 24 & 0x3F == DISPLAY_START
             except ToolError as error:
                 self.error = str(error)
         self.events = sum(self.by_kind.values())
@@ -38,8 +36,7 @@ class Count:
     def lines(self) -> List[str]:
         """Returns the first lines of the report."""
         kinds = ', '.join('%d %s' % (count, KINDS[kind]) for kind, count in sorted(self.by_kind.items()))
-        return ['version: %d' % self.version, 'events: %d%s' % (self.events, ': ' + kinds if kinds else ''),
-                'frames: %d' % self.frames]
+        return ['version: %d' % self.version, 'events: %d%s' % (self.events, ': ' + kinds if kinds else '')]
 
 
 @contextlib.contextmanager
@@ -95,9 +92,10 @@ def slimmed(program: str, path: str, name: str) -> Slim:
 
 
 class Contents(NamedTuple):
-    """What a capture contains. `refused`: the line of psxgpu_tool, if it refuses the capture; then what follows is of
-    the `good` events before."""
+    """What a capture contains, and its frames by flips. `refused`: the line of psxgpu_tool, if it refuses the capture;
+    then what follows is of the `good` events before."""
     records: Count
+    frames: int
     refused: str
     good: int
     packets: Dict[str, int]
@@ -111,7 +109,7 @@ class Contents(NamedTuple):
 
     def lines(self) -> List[str]:
         """Returns the report."""
-        lines = self.records.lines()
+        lines = self.records.lines() + ['frames: %d' % self.frames]
         if self.refused:
             lines.append('refused: %s' % self.refused)
             lines.append('what follows is of the %s before' % counted(self.good, 'event'))
@@ -122,7 +120,7 @@ class Contents(NamedTuple):
 
     def as_object(self) -> Dict[str, object]:
         """Returns the same for JSON."""
-        return dict(version=self.records.version, events=self.records.events, frames=self.records.frames,
+        return dict(version=self.records.version, events=self.records.events, frames=self.frames,
                     kinds={KINDS[kind]: count for kind, count in sorted(self.records.by_kind.items())},
                     refused=self.refused, good=self.good, packets=self.packets, unfinished=self.unfinished,
                     slim=self.slim._asdict())
@@ -130,13 +128,13 @@ class Contents(NamedTuple):
 
 def contents(path: str, name: str, program: str) -> Contents:
     """Returns what a capture contains."""
-    count = Count(path, name)
+    count, frames = Count(path, name), len(Ends(program, path))
     refused = player.refusal(program, path)
     fault = re.search(r' at event (\d+)', refused)
     good = min(count.events, int(fault[1]) - 1) if fault else count.events
     with contextlib.ExitStack() as stack:
         if refused:
             path = stack.enter_context(beginning(path, name, count.version, good))
-        found = Contents(count, refused, good, packets_of(program, path), unfinished_at(program, path, good),
+        found = Contents(count, frames, refused, good, packets_of(program, path), unfinished_at(program, path, good),
                          slimmed(program, path, name))
     return found

@@ -89,11 +89,16 @@ class Difference:
             return ['equal']
         x, y = self.places[0]
         one, other = (grid.text(grid.cell(grid.row(y), x)) for grid in (self.ours, self.theirs))
-        columns = [x for x, _ in self.places]
         return ['first differing cell: (%d, %d): %s %s, %s %s' % (x, y, names[0], one, names[1], other),
                 'cells that differ: %d' % self.count,
-                'their box: %d %d %d %d' % (min(columns), y, max(columns), self.places[-1][1]),
+                'their box: %d %d %d %d' % self.box(),
                 'by steps: ' + self.bands()]
+
+    def box(self, margin: int = 0) -> Tuple[int, int, int, int]:
+        """Returns the box of the cells that differ, with a margin: its first column and row, its last column and row."""
+        columns = [x for x, _ in self.places]
+        return (max(min(columns) - margin, 0), max(self.places[0][1] - margin, 0),
+                min(max(columns) + margin, self.ours.width - 1), min(self.places[-1][1] + margin, self.ours.height - 1))
 
     def image(self) -> Image:
         """Returns the difference as a picture: equal cells in dark gray tones, those that differ in red."""

@@ -1,15 +1,20 @@
 """Films: each picture that a capture shows, through ffmpeg."""
 import collections
+import contextlib
+import itertools
 import re
 import shutil
 import subprocess
-import tempfile
-from typing import IO, List, Optional, Tuple
+from typing import IO, List, NamedTuple, Optional, Tuple, cast
 
 from psxgpu.command import ToolError
+from psxgpu.corpus.scan import FLIP, MARK
 from psxgpu.players import player
+from psxgpu.players.numbering import Ends
+from psxgpu.players.named import said_last
+from psxgpu.stopping import scratch, session
 
-FRAME = re.compile(rb'\d{1,20} (\d{1,5}) (\d{1,5}) [0-9a-f]{64}\n')      # a line of `sums`
+FRAME = re.compile(rb'(\d{1,20}) (\d{1,5}) (\d{1,5}) [0-9a-f]{64}\n')      # a line of `sums`
 # Where a frame ends, as arguments of `frames` and `sums`.
 FLIPS: List[str] = []
 MARKS = ['marks']
@@ -24,34 +29,60 @@ def find_ffmpeg(given: Optional[str]) -> str:
     return path
 
 
-def sizes_of(program: str, path: str, ends: List[str]) -> 'collections.Counter[Tuple[int, int]]':
-    """Returns how many pictures there are of each size. Raises ToolError if the program refuses the capture."""
-    sizes: 'collections.Counter[Tuple[int, int]]' = collections.Counter()
-    with player.playing(program, ['sums', *ends], path) as run:
+class Pictures(NamedTuple):
+    """Which pictures of `frames` are those of frames: the first `frames`, of these ends, most of them of this size."""
+    ends: List[str]
+    frames: int
+    size: Tuple[int, int]
+
+
+def sizes_of(program: str, path: str, words: List[str], ends: Ends) -> List[Tuple[int, int]]:
+    """Returns the size of the picture of each frame that shows one. Raises ToolError if the program refuses the
+    capture. Without packets, what is after the last flip is not a frame, and its picture is left out."""
+    found: List[Tuple[int, int]] = []
+    left = collections.Counter(ends.events)
+    with player.playing(program, ['sums', *words], path) as run:
         for line in run.out:
             frame = FRAME.fullmatch(line)
-            if frame:
-                sizes[int(frame[1]), int(frame[2])] += 1
+            event = ends.event_of(int(frame[1])) if frame else 0
+            if frame and left[event]:
+                left[event] -= 1
+                found.append((int(frame[2]), int(frame[3])))
         run.expect_whole()
-    return sizes
+    return found
 
 
-def frames_of(program: str, path: str, by_flips: bool) -> Tuple[List[str], Tuple[int, int]]:
-    """Returns where frames end, and the size that most of them have: at marks if the capture has marks, else at flips.
-    Raises ToolError if there is no picture."""
-    for ends in (FLIPS,) if by_flips else (MARKS, FLIPS):
-        sizes = sizes_of(program, path, ends)
+def frames_of(program: str, path: str, by_flips: bool) -> Pictures:
+    """Returns the pictures: at marks if the capture has marks, else at flips. Raises ToolError if there is none."""
+    for words, opcode in ((FLIPS, FLIP),) if by_flips else ((MARKS, MARK), (FLIPS, FLIP)):
+        sizes = sizes_of(program, path, words, Ends(program, path, opcode))
         if sizes:
-            return ends, sizes.most_common(1)[0][0]
+            return Pictures(words, len(sizes), collections.Counter(sizes).most_common(1)[0][0])
     raise ToolError('it shows no picture')
 
 
-def encode(ffmpeg: str, frames: IO[bytes], rate: int, size: Tuple[int, int], target: str) -> None:
-    """Writes the film of a stream of PPM pictures. Each picture is scaled to `size` without mixing its pixels."""
+def pour_pictures(source: IO[bytes], count: int, target: IO[bytes]) -> None:
+    """Copies the first PPM pictures of a stream, and reads the others."""
+    for number in itertools.count(1):
+        head = [source.readline() for _ in range(3)]
+        if not head[2]:
+            return
+        width, height = map(int, head[1].split())
+        pixels = source.read(3 * width * height)
+        if number <= count:
+            for part in (*head, pixels):
+                target.write(part)
+
+
+def encode(ffmpeg: str, source: IO[bytes], pictures: Pictures, rate: int, size: Tuple[int, int], target: str) -> None:
+    """Writes the film of a stream of PPM pictures. Each is scaled to `size` without mixing its pixels."""
     words = [ffmpeg, '-y', '-v', 'error', '-f', 'image2pipe', '-c:v', 'ppm', '-framerate', str(rate), '-i', '-',
              '-vf', 'scale=%d:%d:flags=neighbor' % size, '-pix_fmt', 'yuv420p', target]
-    with tempfile.TemporaryFile() as err:
-        status = subprocess.run(words, stdin=frames, stdout=subprocess.DEVNULL, stderr=err, check=False).returncode
+    with scratch() as err:
+        with session(words, stdin=subprocess.PIPE, stdout=subprocess.DEVNULL, stderr=err) as child:
+            with contextlib.suppress(BrokenPipeError), cast(IO[bytes], child.stdin) as pipe:
+                pour_pictures(source, pictures.frames, pipe)
+            status = child.wait()
         err.seek(0)
         if status:
-            raise ToolError('ffmpeg: ' + player.failure(status, err.read()))
+            raise ToolError('ffmpeg: ' + (said_last(err.read()) or 'status %d' % status))

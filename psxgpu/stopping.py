@@ -7,12 +7,15 @@ import contextlib
 import os
 import signal
 import subprocess
+import tempfile
+import threading
 import types
-from typing import Any, Dict, Iterator, List, Optional, Set
+from typing import IO, Any, Dict, Iterator, List, Optional, Set
 
 SIGNALS = (signal.SIGINT, signal.SIGTERM)
 FIRST_STATUS = 128          # the status of a run that a signal ended is this plus the number of the signal
 RUNNING: Set["subprocess.Popen[bytes]"] = set()
+HELD: List[List[int]] = []  # for each block of `held`: the signals that came in it
 
 
 class Stopped(KeyboardInterrupt):
@@ -29,27 +32,63 @@ def kill(child: "subprocess.Popen[bytes]") -> None:
         os.killpg(child.pid, signal.SIGKILL)
 
 
+def end(child: "subprocess.Popen[bytes]") -> None:
+    """Ends a process and what it started, and closes its pipes."""
+    kill(child)
+    child.wait()
+    for pipe in filter(None, (child.stdin, child.stdout, child.stderr)):
+        with contextlib.suppress(OSError):
+            pipe.close()
+
+
+@contextlib.contextmanager
+def held() -> Iterator[None]:
+    """Lets a signal that comes in the block raise `Stopped` at its end."""
+    if threading.current_thread() is not threading.main_thread():       # no signal is handled there
+        yield
+        return
+    HELD.append([])
+    try:
+        yield
+    finally:
+        came = HELD.pop()
+        if came:
+            stop(came[0], None)
+
+
+@contextlib.contextmanager
+def scratch() -> Iterator[IO[bytes]]:
+    """A file without a name. It is closed at the end, even if the run is stopped while it is made."""
+    with contextlib.ExitStack() as stack:
+        with held():
+            file = stack.enter_context(tempfile.TemporaryFile(prefix='psxgpu'))
+        yield file
+
+
 @contextlib.contextmanager
 def session(words: List[str], **settings: Any) -> Iterator["subprocess.Popen[bytes]"]:
     """A process that is a session of its own, so Ctrl-C does not reach it. It is ended if the block raises, or if the
     run is stopped. The block waits for its end."""
-    child = subprocess.Popen(words, start_new_session=True, **settings)     # pylint: disable=consider-using-with
-    RUNNING.add(child)
+    child: Optional["subprocess.Popen[bytes]"] = None
     try:
+        with held():
+            child = subprocess.Popen(words, start_new_session=True, **settings) # pylint: disable=consider-using-with
+            RUNNING.add(child)
         yield child
     except BaseException:
-        kill(child)
-        child.wait()
-        for pipe in filter(None, (child.stdin, child.stdout, child.stderr)):
-            with contextlib.suppress(OSError):
-                pipe.close()
+        if child:
+            end(child)
         raise
     finally:
-        RUNNING.discard(child)
+        if child:
+            RUNNING.discard(child)
 
 
 def stop(number: int, _: Optional[types.FrameType]) -> None:
     """Handles a signal. A second one ends the process at once."""
+    if HELD and not HELD[-1]:
+        HELD[-1].append(number)
+        return
     for each in SIGNALS:
         signal.signal(each, signal.SIG_DFL)
     for child in list(RUNNING):

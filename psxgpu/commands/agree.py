@@ -6,13 +6,14 @@
 
 A player is a shell command that reads a capture of version 1 without Ram and Dma records and writes a dump. The mode
 `vram` is added to a command without this word. For captures that differ, the table has the share of differing cells
-among those that either player changed. docs/EMULATORS.md has the reason for each class.
+among those that either player changed. After the table, each class that differs has who decides it. docs/EMULATORS.md has the reason for each class.
 
 Status: 0 all are equal, 1 some differ, 2 an error, also if a player wrote no dump.
 """
 import argparse
 
 from psxgpu.command import DIFFERENT, SAME, ToolError, decimal
+from psxgpu.fuzz.deciding import DECIDED, of_random
 from psxgpu.output import Command, Text
 from psxgpu.packets.generated import CLASSES
 from psxgpu.players import player
@@ -51,6 +52,9 @@ def run(words: argparse.Namespace) -> int:
         scores.append(Score(name, words.captures))
         compare_class(scores[-1], players)
         print(scores[-1].line(), flush=True)
+    for score in scores:
+        if score.equal + score.lost < score.captures:
+            print('%s: %s' % (score.name, DECIDED % (of_random(score.name),)))
     lost = sum(score.lost for score in scores)
     if lost:
         raise ToolError('a player wrote no dump for %d of %d captures' % (lost, sum(score.captures for score in scores)))

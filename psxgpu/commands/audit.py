@@ -8,7 +8,7 @@ Both are shell commands: the mode replaces the word `vram`, or is added at the e
 
 After each packet that draws, the cells in and around its area are read, and then set to what OURS drew. So both players
 have the same video memory before each packet, and a difference does not reach later packets. The table has a line for
-each class of packets. The first packet of each class that differs follows. Packets before the first and after the last
+each class of packets. The first packet of each class that differs follows, with who decides it. Packets before the first and after the last
 event are played but not compared. The capture must be flat (`psxgpu_tool flat` flattens one).
 
 With --reduce, the first packet of each class that differs is reduced as by `psxgpu reduce --event --keep`. THEIRS must
@@ -23,6 +23,7 @@ from typing import Dict
 from psxgpu import progress
 from psxgpu.command import DIFFERENT, SAME, decimal, title
 from psxgpu.files import read_capture
+from psxgpu.fuzz.deciding import DECIDED, of_class
 from psxgpu.output import Command, Source, tree
 from psxgpu.players import player
 from psxgpu.players.audit import Row, audit
@@ -72,3 +73,4 @@ def print_table(rows: Dict[str, Row]) -> None:
     for kind, row in sorted(rows.items()):
         if row.first:
             print('%s: %s' % (kind, row.first))
+            print('    ' + DECIDED % (of_class(kind),))

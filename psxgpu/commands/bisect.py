@@ -18,21 +18,26 @@ Status: 0 no difference, 1 one was found, 2 an error.
 """
 import argparse
 import contextlib
+from typing import Optional
 
 from psxgpu import progress
 from psxgpu.command import DIFFERENT, SAME, decimal, title
 from psxgpu.difference import compared
 from psxgpu.errors import counted
 from psxgpu.files import plain
+from psxgpu.fuzz.deciding import DECIDED, of_packet
 from psxgpu.output import Command, Source
+from psxgpu.packets.deciders import Decision
 from psxgpu.packets.known import CLASSES, NAMES
 from psxgpu.players import player
 from psxgpu.players.beginning import beginning
 from psxgpu.players.bisection import bisect, build, step_text
 from psxgpu.players.flat import flattened
 from psxgpu.players.named import player_of
+from psxgpu.players.steps import Steps
 from psxgpu.players.trial_run import try_players
 from psxgpu.players.two_players import Players
+from psxgpu.stream import GP0
 
 
 def arguments(parser: argparse.ArgumentParser) -> None:
@@ -49,6 +54,12 @@ def arguments(parser: argparse.ArgumentParser) -> None:
                              + ', '.join(sorted(CLASSES) + list(NAMES)))
     player.seconds_argument(parser)
     player.argument(parser)
+
+
+def of_step(steps: Steps, k: int) -> Optional[Decision]:
+    """Returns who decides what a step draws."""
+    kind, _, packet = steps.record(k)
+    return of_packet(packet.tolist(), steps.registers_behind(k - 1)) if kind == GP0 else None
 
 
 def search(words: argparse.Namespace, path: str, name: str, program: str) -> int:
@@ -77,6 +88,9 @@ def search(words: argparse.Namespace, path: str, name: str, program: str) -> int
         print('they differ from here on, packet %d of %s%d:'
               % (steps.lines[k], '' if is_whole else 'the first ', steps.lines[steps.count]))
         print('\n'.join(step_text(steps, k, path, program)))
+        decided = of_step(steps, k)
+        if decided:
+            print(DECIDED % (decided,))
         print('\n'.join(compared(*players.dumps(k), words.tolerance).lines()))
     return DIFFERENT
 

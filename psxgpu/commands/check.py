@@ -3,9 +3,9 @@
     psxgpu check mine.capture
     psxgpu check *.capture --json
 
-Prints its version, its events by kind, the number of frames (writes of the display start), its packets by class, the
-refusal of psxgpu_tool if there is one, what is unfinished at its end (a packet, a load, a store that waits for reads, a
-DMA transfer), and how much `slim` removes.
+Prints its version, its events by kind, the number of frames (each ends with a write of the display start; what follows
+the last one is a frame too if it has a packet), its packets by class, the refusal of psxgpu_tool if there is one, what
+is unfinished at its end (a packet, a load, a store that waits for reads, a DMA transfer), and how much `slim` removes.
 
 Status: 0 complete, 1 something is refused or unfinished, 2 an error.
 """

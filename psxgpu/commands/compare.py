@@ -9,10 +9,11 @@ size of the difference. The difference of a cell is the greatest of its channels
 picture. Bit 15 of a cell counts as a channel. PICTURE has equal cells in dark gray and different ones in red. The
 picture of --side has ours, theirs and the difference.
 
-Recordings are captures, snapshots or GPU dumps. psxgpu_tool makes their pictures: one after each write of the display
-start, or after each mark (--marks), and one at the end. The tool prints the number of the first frame that differs, its
-event in both recordings, the size and SHA-256 of both pictures, and how they differ. If all frames are equal, it
-compares video memory at the end. Event numbers are not compared, so an additional read of the status is no difference.
+Recordings are captures, snapshots or GPU dumps. psxgpu_tool makes their pictures. A frame ends with a write of the
+display start, or with a mark (--marks). What follows the last one is a frame too if it has a packet. The tool prints
+the number of the first frame that differs, from 1, its event in both recordings, the size and SHA-256 of both pictures,
+and how they differ. If all frames are equal, it compares video memory and the picture at the end. Event numbers are
+not compared, so an additional read of the status is no difference.
 
 Status: 0 equal, 1 different, 2 an error.
 """

@@ -12,6 +12,10 @@ results, it finds the first packet and draws the difference. `join` makes one fi
 each machine played a part. `split` cuts a recording after some of its frames into parts that can be played in parallel.
 `glue` joins the output for the parts to the output for the whole. docs/CORPUS.md shows all of it.
 
+The order of the parts is that of their names, which begin with the numbers that `split` gives. `glue` refuses another
+order. If no name begins with a number, it takes the order in which the files are named: a wrong one is refused for
+`list` and `sums`, whose lines have events, and cannot be seen for `play` and `frames`.
+
 A run that was interrupted continues where it was.
 
 Status: 0 the same, or done; 1 something differs; 2 an error, also if the player plays no capture.
@@ -36,7 +40,7 @@ from psxgpu.corpus.scan import FLIP, MARK
 from psxgpu.corpus.sums import Sums, as_bytes, read_sums, write_text
 from psxgpu.files import plain
 from psxgpu.output import check as check_roles
-from psxgpu.output import Command, Folder, Role, Source, Target, Text, folder, roles_in, tree, writing
+from psxgpu.output import Command, Folder, Role, Source, Target, Text, folder, tree, writing
 from psxgpu.players.player import find
 
 SPLIT = 'psxgpu corpus split'
@@ -163,21 +167,22 @@ OUTPUTS: Dict[str, Tuple[str, Callable[[str], Role]]] = {
     'split': ('into', tree(SPLIT)), 'glue': ('output', Target)}
 
 
-def name_output(words: argparse.Namespace) -> None:
-    """Lets -o name the output of the action."""
+def complete(words: argparse.Namespace) -> None:
+    """Lets -o name the output of the action. Raises ToolError if it is named twice, or cannot have this name."""
     name, kind = OUTPUTS[words.action]
     given, words.output = words.output, None
     if given is None:
         return
     if getattr(words, name) is not None:
         raise ToolError('two outputs are named: %s and %s' % (getattr(words, name), given))
-    setattr(words, name, kind(given))
-    check_roles(roles_in(words))
+    try:
+        setattr(words, name, kind(given))
+    except argparse.ArgumentTypeError as error:
+        raise ToolError('argument -o/--output: %s' % error) from error
 
 
 def run(words: argparse.Namespace) -> int:
     """Does the action."""
-    name_output(words)
     missing = ['--' + name for name in WANTED[words.action] if getattr(words, name) is None]
     if missing:
         raise ToolError('%s needs %s' % (words.action, ' and '.join(missing)))

@@ -4,8 +4,9 @@
     psxgpu film game.psxgpu.zst film.mp4 --rate 50 --scale 3
 
 A frame ends at each mark (GP1(3Fh), which recorders write at a vertical blank) or, in a capture without marks, at each
-flip: a write of the display start. The film has the size that most frames have, times the scale; the others are scaled
-to it. ffmpeg makes it, in a format that video players show (yuv420p). Status: 0 written, 2 an error.
+flip: a write of the display start. What follows the last flip is a frame too if it has a packet. The film has the size
+that most frames have, times the scale; the others are scaled to it. ffmpeg makes it, in a format that video players
+show (yuv420p). Status: 0 written, 2 an error.
 """
 import argparse
 
@@ -38,11 +39,14 @@ def run(words: argparse.Namespace) -> None:
     program, ffmpeg, name = player.find(words.player), find_ffmpeg(words.ffmpeg), title(words.capture)
     with plain(words.capture) as path, written_by_name(words.film, [words.capture]) as target:
         try:
-            ends, (width, height) = frames_of(program, path, words.flips)
+            pictures = frames_of(program, path, words.flips)
         except ToolError as error:
             raise ToolError('%s: %s' % (name, error)) from error
         # Both sides of a picture of yuv420p are even.
-        size = (words.scale * width + 1) // 2 * 2, (words.scale * height + 1) // 2 * 2
-        with progress.shown(name, is_quiet=True), player.playing(program, ['frames', *ends], path) as run_of_frames:
-            encode(ffmpeg, run_of_frames.out, words.rate, size, target)
-            run_of_frames.expect_whole()
+        width, height = ((words.scale * side + 1) // 2 * 2 for side in pictures.size)
+        with progress.shown(name, is_quiet=True), player.playing(program, ['frames', *pictures.ends], path) as playing:
+            try:
+                encode(ffmpeg, playing.out, pictures, words.rate, (width, height), target)
+            except ToolError as error:
+                raise ToolError(str(error).replace(target, words.film)) from error
+            playing.expect_whole()

@@ -3,11 +3,11 @@
     psxgpu heat mine.capture heat.png
     psxgpu heat mine.capture heat.png --frame 12 --flips
 
-Frames end at the marks that recorders write (GP1(3Fh)), with --flips at each write of the display start. Without
---frame the picture shows the frame with the most covered cells. A polygon, line or rectangle covers its cells in the
-drawing area. A fill, copy or load covers all its cells. A cell counts even if the mask test or a texel of 0000h kept
-its value: the picture shows the work, not the result. The colours: black never, blue once, then green, yellow, red, and
-white from 16 on.
+Frames end at the marks that recorders write (GP1(3Fh)), with --flips at each write of the display start. What follows
+the last end is a frame too if it has a packet. Without --frame the picture shows the frame with the most covered cells.
+A polygon, line or rectangle covers its cells in the drawing area. A fill, copy or load covers all its cells. A cell
+counts even if the mask test or a texel of 0000h kept its value: the picture shows the work, not the result. The
+colours: black never, blue once, then green, yellow, red, and white from 16 on.
 
 Each frame gives a line of numbers: the frame, its packets, the cells covered (each as often as it is), the cells
 covered at least once, the mean, and the greatest.
@@ -58,7 +58,7 @@ def frames(counter: Counter, wanted: Optional[int]) -> Tuple[int, Optional[Count
     most = -1
     print('frame packets total covered mean most')
     for number, frame in enumerate(counter.counted(), 1):
-        if number == len(counter.frames) and not frame.packets:
+        if number > counter.count:
             break
         counts = counts_of(frame, rows) if frame.sums or frame.areas else None
         print(frame_line(number, frame, counts))
@@ -77,9 +77,9 @@ def run(words: argparse.Namespace) -> None:
         counter = Counter(Walk(flat, name, program), FLIP if words.flips else MARK)
         with contextlib.closing(counter.questions):
             counter.go()
-            last = len(counter.frames) - (not counter.frames[-1].packets)
-            if words.frame and words.frame > last:
-                raise ToolError('%s: there is no frame %d: it has %s' % (name, words.frame, counted(last, 'frame')))
+            if words.frame and words.frame > counter.count:
+                raise ToolError('%s: there is no frame %d: it has %s' % (
+                    name, words.frame, counted(counter.count, 'frame')))
             number, counts = frames(counter, words.frame)
     if words.frame and (counts is None or number != words.frame):
         raise ToolError('%s: frame %d covers no cell' % (name, words.frame))

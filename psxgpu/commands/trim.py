@@ -5,23 +5,25 @@
 
 The output has the state before the first of these frames, and the events up to the end of the last one. Events keep
 their numbers. Frames are numbered from 1. A frame ends at each mark (GP1(3Fh), which recorders write at a vertical
-blank) or, in a capture without marks, at each flip: a write of the display start. Events after the last end are a frame
-too. If the first frame is 1, nothing is before it, and the output is a capture. To count events, use `psxgpu first` and
-`psxgpu_tool cut`.
+blank) or, in a capture without marks, at each flip: a write of the display start. What follows the last end is a frame
+too if it has a packet. `A-` reaches to the last event. If the first frame is 1, nothing is before it, and the output is
+a capture. To count events, use `psxgpu first` and `psxgpu_tool cut`.
 
 Status: 0 written, 2 an error, also if the capture has fewer frames. Then no file is written, and an old one stays.
 """
 import argparse
 import re
 import tempfile
-from typing import IO, List, Optional, Tuple
+from typing import IO, Optional, Tuple
 
 from psxgpu.command import ToolError, pour, title
-from psxgpu.corpus.scan import FLIP, MARK, copy_first, frames
+from psxgpu.corpus.scan import copy_first
+from psxgpu.errors import counted
 from psxgpu.files import is_snapshot, plain
 from psxgpu.output import Packed, Source, once
 from psxgpu.packing import packing
 from psxgpu.players import player
+from psxgpu.players.numbering import Ends, marks_or_flips
 
 Range = Tuple[int, Optional[int]]
 
@@ -48,21 +50,15 @@ def arguments(parser: argparse.ArgumentParser) -> None:
     player.argument(parser)
 
 
-def ends_of(path: str, by_flips: bool) -> List[int]:
-    """Returns the last event of each frame. Raises ValueError if the capture is damaged."""
-    ends, last = frames(path, FLIP if by_flips else MARK)
-    if not ends and not by_flips:
-        ends, last = frames(path, FLIP)
-    return ends + [last] * (last > (ends[-1] if ends else 0))
-
-
-def events_of(ends: List[int], wanted: Range) -> Tuple[int, int]:
+def events_of(ends: Ends, wanted: Range) -> Tuple[int, int]:
     """Returns the number of events before these frames, and their last event. Raises ValueError if they are not
-    there."""
-    first, last = wanted[0], wanted[1] or len(ends)
+    there, or if the recording is damaged."""
+    if ends.damage:
+        raise ValueError(ends.damage)
+    first, last = wanted[0], wanted[1] or max(len(ends), 1)
     if max(first, last) > len(ends):
-        raise ValueError('it has %d frame%s' % (len(ends), 's' * (len(ends) != 1)))
-    return ends[first - 2] if first > 1 else 0, ends[last - 1]
+        raise ValueError('it has ' + counted(len(ends), 'frame'))
+    return ends.events[first - 2] if first > 1 else 0, ends.events[last - 1] if wanted[1] else ends.last
 
 
 def trim(path: str, before: int, last: int, program: str, target: IO[bytes]) -> None:
@@ -86,6 +82,7 @@ def run(words: argparse.Namespace) -> None:
     program, name = player.find(words.player), title(words.capture)
     with packing(words.output, [words.capture]) as target, plain(words.capture) as path:
         try:
-            trim(path, *events_of(ends_of(path, words.flips), words.frames), program, target)
+            ends = marks_or_flips(program, path, words.flips)
+            trim(path, *events_of(ends, words.frames), program, target)
         except ValueError as error:
             raise ToolError('%s: %s' % (name, error)) from error

@@ -1,6 +1,6 @@
 """Compares the sums that a player gives with those that were recorded."""
 from dataclasses import dataclass, field
-from typing import List, Optional, Sequence, Tuple
+from typing import List, NamedTuple, Optional, Sequence, Tuple
 
 from psxgpu.command import ToolError
 from psxgpu.corpus.sums import Frame, Row, Sums
@@ -9,9 +9,16 @@ from psxgpu.errors import counted
 FAULTS = ('refused', 'fails', 'hangs', 'crashes')
 
 
+class Shown(NamedTuple):
+    """A picture of the report, as PNG."""
+    title: str
+    data: bytes
+
+
 @dataclass
 class Finding:
-    """The result for one capture. `low` and `high`: it is the same after event `low`, and not after `high`."""
+    """The result for one capture. `low` and `high`: it is the same after event `low`, and not after `high`. `links`: the
+    files of the report beside its page, that it leads to."""
     name: str
     kind: str = 'same'
     lines: List[str] = field(default_factory=list)
@@ -19,7 +26,8 @@ class Finding:
     high: Optional[int] = None
     other_words: bool = False
     seconds: float = 0.0
-    picture: Optional[bytes] = None
+    pictures: List[Shown] = field(default_factory=list)
+    links: List[str] = field(default_factory=list)
 
 
 def as_asked(frame: Frame, gives: Sequence[str]) -> Tuple[int, int, int, str, str]:

@@ -56,10 +56,10 @@ class Run:
 
 
 def ending(status: int, error: str) -> str:
-    """Returns how a player ended, in words of a file of sums."""
+    """Returns how a player ended, in words of a file of sums. The last line of its standard error says why."""
     if status == 0:
         return 'played'
     if status < 0:
         return 'crashes ' + signal.Signals(-status).name
-    line = ' '.join(error.strip().split('\n')[0].split())
+    line = ' '.join(error.strip().split('\n')[-1].split())
     return '%s %d %s' % ('refused' if status == 2 else 'fails', status, line or 'without a message')

@@ -1,14 +1,29 @@
 """Finds where in a capture a player begins to differ from another, and draws the difference."""
 import tempfile
-from typing import Optional, Tuple
+from typing import List, Optional, Tuple
 
-from psxgpu.corpus.findings import Finding
+from psxgpu.corpus.findings import Finding, Shown
 from psxgpu.corpus.play import Player
 from psxgpu.corpus.scan import copy_first, frames
-from psxgpu.difference import compared
-from psxgpu.image import png, read_picture
+from psxgpu.difference import Difference, compared
+from psxgpu.image import Image, png, read_picture
 
 NAMES = ('the player', 'the reference')
+MARGIN = 8          # cells around what differs
+
+
+def pictures(difference: Difference) -> List[Shown]:
+    """Returns what differs as pictures: the part of video memory of both players, and of the difference."""
+    box, images = difference.box(MARGIN), [difference.ours.image(), difference.theirs.image(), difference.image()]
+    titles = ['video memory of %s from (%d, %d)' % (name, box[0], box[1]) for name in NAMES] + ['what differs, in red']
+    return [Shown(title, png(part(image, box))) for title, image in zip(titles, images)]
+
+
+def part(image: Image, box: Tuple[int, int, int, int]) -> Image:
+    """Returns the part of a picture inside a box: first column and row, last column and row."""
+    left, top, right, bottom = box
+    rows = (image.row(y)[3 * left:3 * (right + 1)] for y in range(top, bottom + 1))
+    return Image(right + 1 - left, bottom + 1 - top, b''.join(rows))
 
 
 class Places:
@@ -54,7 +69,7 @@ class Places:
             finding.lines.append('after event %d video memory is the same' % high)
             return
         difference = compared(ours, theirs)
-        finding.picture = png(difference.image())
+        finding.pictures = pictures(difference)
         low = finding.low
         while high - low > 1:
             middle = (low + high) // 2
@@ -83,4 +98,4 @@ class Places:
         """Adds the picture after event `high`."""
         data = self.given(self.player, 'shot', path, high)
         if data:
-            finding.picture = png(read_picture(data))
+            finding.pictures = [Shown('the picture of the player after event %d' % high, png(read_picture(data)))]

@@ -34,6 +34,7 @@ def reduce_finding(finding: Finding, path: str, player: Player, reference: Playe
                         found = job.result(flat, finding.name)
                     if found:
                         paths = [out.put(file.path, file.data) for file in files_of(found, name, notes)]
+                        finding.links = [os.path.relpath(path, out.path) for path in paths]
                         finding.lines.append('reduced: %s, %s: %s' % (
                             counted(len(found.units), 'packet'), counted(found.words, 'word'), paths[0]))
                         finding.lines += report_lines(found)[2:]

@@ -3,20 +3,27 @@ import base64
 import html
 import re
 from typing import Sequence
+from urllib.parse import quote
 from xml.sax.saxutils import escape, quoteattr
 
-from psxgpu.corpus.findings import Finding
+from psxgpu.corpus.findings import Finding, Shown
 
 PAGE = '''<!DOCTYPE html>
-<html lang="en"><head><meta charset="utf-8"><title>Corpus</title><style>
-body { font: 15px/1.5 sans-serif; margin: 2em auto; max-width: 70em; padding: 0 1em; color: #222 }
-section { border-top: 1px solid #ccc; padding: 1em 0 } h2 { font-size: 1em; margin: 0 } pre { margin: 0.5em 0 }
-img { max-width: 100%%; image-rendering: pixelated; background: #000 } .kind { color: #a00 }
+<html lang="en"><head><meta charset="utf-8"><meta name="viewport" content="width=device-width"><title>Corpus</title><style>
+:root { color-scheme: light dark }
+body { font: 15px/1.5 system-ui, sans-serif; margin: 0 auto; max-width: 70em; padding: 1em; overflow-wrap: anywhere }
+section { border-top: 1px solid light-dark(#ccc, #444); padding: 1em 0 } h2 { font-size: 1em; margin: 0 }
+pre { margin: 0.5em 0; white-space: pre-wrap } .kind { color: light-dark(#a00, #ff8a80) }
+figure { display: inline-block; margin: 0 1em .5em 0; max-width: 100%%; vertical-align: top }
+img { display: block; max-width: 100%%; image-rendering: pixelated; background: #000 }
+figcaption { font-size: 12px; color: light-dark(#5d6675, #939cab) }
 </style></head><body><h1>Corpus</h1>
 <p>%s</p>
 <p>Recorded by %s, played by %s.</p>
 %s</body></html>
 '''
+FIGURE = '<figure><img alt="%s" width="%d" src="data:image/png;base64,%s"><figcaption>%s</figcaption></figure>\n'
+MOST_SCALE, SHOWN_WIDTH = 8, 320    # of a picture: pixels of a cell, pixels of a row
 SECTION = '<section><h2><span class="kind">%s</span> %s</h2>\n<pre>%s</pre>\n%s</section>\n'
 NOT_IN_XML = re.compile('[^\t\n\r\x20-\ud7ff\ue000-\ufffd\U00010000-\U0010ffff]')
 
@@ -70,16 +77,27 @@ def junit(findings: Sequence[Finding]) -> str:
     return '<?xml version="1.0" encoding="UTF-8"?>\n%s%s</testsuite>\n' % (head, ''.join(map(case, findings)))
 
 
-def picture(finding: Finding) -> str:
-    """Returns the picture of a finding as HTML."""
-    if not finding.picture:
-        return ''
-    data = base64.b64encode(finding.picture).decode('ascii')
-    return '<img alt="" src="data:image/png;base64,%s">\n' % data
+def figure(shown: Shown) -> str:
+    """Returns a picture as HTML. A small one is enlarged."""
+    width = int.from_bytes(shown.data[16:20], 'big')    # where a PNG has it
+    scale = max(1, min(MOST_SCALE, SHOWN_WIDTH // width))
+    title = html.escape(shown.title)
+    return FIGURE % (title, scale * width, base64.b64encode(shown.data).decode('ascii'), title)
+
+
+def links(finding: Finding) -> str:
+    """Returns the files that a finding leads to, as HTML."""
+    made = ['<a href="%s">%s</a>' % (quote(path), html.escape(path)) for path in finding.links]
+    return '<p>The reduced capture: %s</p>\n' % ', '.join(made) if made else ''
+
+
+def section(finding: Finding) -> str:
+    """Returns what the page has of a finding."""
+    return SECTION % (finding.kind, html.escape(plain(finding.name)), html.escape(plain('\n'.join(finding.lines))),
+                      ''.join(map(figure, finding.pictures)) + links(finding))
 
 
 def page(findings: Sequence[Finding], recorded: str, played: str) -> str:
     """Returns the report as a page. `recorded`, `played`: the players."""
-    parts = [SECTION % (finding.kind, html.escape(plain(finding.name)), html.escape(plain('\n'.join(finding.lines))),
-                        picture(finding)) for finding in findings if finding.kind != 'same']
+    parts = [section(finding) for finding in findings if finding.kind != 'same']
     return PAGE % (summary(findings), html.escape(plain(recorded)), html.escape(plain(played)), ''.join(parts))

@@ -92,6 +92,12 @@ class Counter:
         self.tiles = Tiles(1024 if walk.is_tall else 512)
         self.channel, self.area = 0, None               # type: int, Optional[Area]
         self.words: List[int] = [ADD]
+        self.has_rest = False           # a packet of any kind since the last end of a frame
+
+    @property
+    def count(self) -> int:
+        """The number of frames: what follows the last end is one if it has a packet."""
+        return len(self.frames) - (not self.has_rest)
 
     def ask(self) -> None:
         """Reads what was counted since the last question, and clears it. Boxes begin at multiples of 16 cells, as fills
@@ -133,6 +139,7 @@ class Counter:
 
     def packet(self, name: str, words: List[int], area: Optional[Area]) -> None:
         """Adds a packet."""
+        self.has_rest = True
         if name in DRAWN:
             self.frames[-1].packets += 1
             if area:
@@ -152,6 +159,7 @@ class Counter:
         if opcode == self.ends:
             self.ask()
             self.frames.append(Frame())
+            self.has_rest = False
 
     def go(self) -> None:
         """Goes through the capture."""

@@ -78,6 +78,10 @@ class Folder:
         self.mark(names)
         return os.path.join(self.path, names[0])
 
+    def make(self, name: str) -> None:
+        """Makes a folder within it, for files that the caller writes."""
+        os.makedirs(os.path.join(self.path, name), exist_ok=True)
+
     def mark(self, names: Iterable[str]) -> None:
         """Writes the mark with more names. Raises ToolError if a file of such a name is there that the tool did not
         write."""

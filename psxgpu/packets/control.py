@@ -19,15 +19,15 @@ def mode(word: int) -> str:
     return 'display mode: ' + ', '.join(parts + [name for bit, name in flags if word & bit])
 
 
-def control(word: int) -> str:
-    """Returns what a word for GP1 does."""
+def control(word: int, rows: int) -> str:
+    """Returns what a word for GP1 does. `rows`: of video memory."""
     opcode = word >> 24 & 0x3F
     if 0x10 <= opcode <= 0x1F:
         return 'information %d' % (word & 15)
     texts: Dict[int, Callable[[], str]] = {
         0: lambda: 'reset', 1: lambda: 'ends what is unfinished', 2: lambda: 'clears the interrupt bit',
         3: lambda: 'display off' if word & 1 else 'display on', 4: lambda: 'DMA direction %d' % (word & 3),
-        5: lambda: 'display start (%d, %d)' % (word & 0x3FF, word >> 10 & 0x3FF),
+        5: lambda: 'display start (%d, %d)' % (word & 0x3FF, word >> 10 & rows - 1),
         6: lambda: 'horizontal range %s' % ranges(word, 12, 0xFFF),
         7: lambda: 'vertical range %s' % ranges(word, 10, 0x3FF), 8: lambda: mode(word)}
     return texts[opcode]() if opcode in texts else 'nothing'

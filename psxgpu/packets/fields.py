@@ -147,7 +147,7 @@ def setting_text(opcode: int, value: int) -> List[str]:
 TEXTS = {POLYGON: polygon_text, LINE: line_text, RECTANGLE: rectangle_text, ENVIRONMENT: environment_text}
 
 
-def fields(name: str, words: Sequence[int], registers: Registers, rows: int = 1024) -> List[str]:
+def fields(name: str, words: Sequence[int], registers: Registers, rows: int) -> List[str]:
     """Returns the fields of a packet as lines. registers: the values of E1h to E6h after its words; rows: of video
     memory."""
     if name in (COPY, LOAD, STORE):

@@ -1,5 +1,6 @@
 """Random packets, class by class, on which two players are compared. docs/EMULATORS.md has the reason for each class.
 Each function takes a generator of random numbers and returns words."""
+import struct
 from random import Random
 from typing import Any, Callable, Dict, List, Sequence, Tuple
 
@@ -8,16 +9,22 @@ from psxgpu.words import clut, copy, fill, line, load, polygon, rectangle, textu
 
 Make = Callable[[Random], List[int]]
 WIDTH, HEIGHT = 320, 240      # what is drawn on: the top left of video memory
+COLUMNS, ROWS, SQUARE = 1024, 512, 64       # of video memory, and of the random cells that are repeated in it
 AREA = drawing_area(0, 0, WIDTH - 1, HEIGHT - 1)
 
 
 def background(r: Random) -> List[int]:
-    """Returns the words for random cells: on the part that is drawn on, and for pages and palettes."""
-    words = load(0, 0, 64, 64, [r.getrandbits(16) for _ in range(4096)])
-    for w in (64, 128, 256, 512):
-        words += copy(0, 0, w, 0, w, 64)
-    for h in (64, 128, 256):
-        words += copy(0, 0, 0, h, 1024, h)
+    """Returns the words for random cells in all of video memory, where packets draw and find pages and palettes.
+
+    They have no period: the squares of 64 by 64 cells are those of the first one, each shifted by a distance of its
+    own. So a player that takes another page, or drops a bit of a texture window, finds other texels."""
+    words = [0xA0000000, 0, SQUARE << 16 | SQUARE, *struct.unpack('<2048I', r.randbytes(2 * SQUARE * SQUARE))]
+    words += copy(0, 0, SQUARE, 0, SQUARE, SQUARE) + copy(0, 0, 0, SQUARE, 2 * SQUARE, SQUARE)
+    places = [(x, y) for y in range(0, ROWS, SQUARE) for x in range(0, COLUMNS, SQUARE) if x > SQUARE or y > SQUARE]
+    for place, distance in zip(places, r.sample(range(1, SQUARE * SQUARE), len(places))):
+        words += copy(distance % SQUARE, distance // SQUARE, *place, SQUARE, SQUARE)
+    for place in ((SQUARE, 0), (0, SQUARE), (SQUARE, SQUARE)):      # no longer the first one again
+        words += copy(r.randrange(512, 960), r.randrange(256, 448), *place, SQUARE, SQUARE)
     return words
 
 
@@ -129,6 +136,12 @@ def sloped(r: Random) -> List[int]:
     return line(corners(r, 2), color(r))
 
 
+def two_colours(r: Random) -> List[int]:
+    """Returns a line of two colours on an axis or on a diagonal."""
+    words = straight(r)
+    return [words[0] | 0x10000000, words[1], color(r), words[2]]
+
+
 def dithered(piece: Make) -> Make:
     """Returns a function for the same under dither. One of one colour does not depend on interpolation."""
     return lambda r: draw_mode(dither=True) + piece(r)
@@ -209,6 +222,7 @@ CLASSES: Dict[str, Make] = {
     'triangles, textured, scaled': scaled,
     'lines on axes and diagonals': straight,
     'lines, sloped': sloped,
+    'lines of two colours': two_colours,
     'texture windows': windows,
     'mask settings': masked,
     'semi-transparency': blended,

@@ -24,19 +24,20 @@ HEADS = Texts[int]('{:08x}'.format)          # the first words of packets as `li
 
 class Entry(NamedTuple):
     """An entry: a packet or an event at a port. `registers` are those after the packet. They change when the next entry
-    is taken."""
+    is taken. `rows`: of video memory."""
     event: int
     name: str
     area: str
     line: str
     words: Sequence[int]
-    registers: Optional[Registers]
+    rows: int
+    registers: Optional[Registers] = None
 
     def fields(self) -> List[str]:
         """Returns the other lines of the entry."""
         if self.registers is not None:
-            return fields(self.name, self.words, self.registers)
-        return [control(self.words[0])] if self.name == CONTROL else []
+            return fields(self.name, self.words, self.registers, self.rows)
+        return [control(self.words[0], self.rows)] if self.name == CONTROL else []
 
 
 def until_fault(records: Iterable[Record]) -> Iterator[Record]:
@@ -63,13 +64,13 @@ class Listing:
             for kind, count, words in until_fault(stream.gathered()):
                 if kind == GP0:
                     for (_, packet, _), line in zip(splitter.push(words), lines):
-                        yield packet_entry(line, packet, splitter.registers, self.name)
+                        yield packet_entry(line, packet, splitter, self.name)
                     event += count
                     continue
                 if kind == GP1:
                     splitter.control(words[0])
                 if has_ports:
-                    yield port_entry(event, kind, count, words)
+                    yield port_entry(event, kind, count, words, splitter.rows)
                 event += count_of(kind, count)
             if listed.end():
                 self.refuse(listed.said().decode(errors='replace'))
@@ -84,9 +85,11 @@ class Listing:
         """Returns the events that are neither words for GP0 nor for main memory."""
         event = 1
         with reading(self.path) as file:
-            for kind, count, words in until_fault(Stream(file, self.name)):
+            stream = Stream(file, self.name)
+            rows = Splitter(stream.version == 3).rows
+            for kind, count, words in until_fault(stream):
                 if kind not in (GP0, RAM):
-                    yield port_entry(event, kind, count, words)
+                    yield port_entry(event, kind, count, words, rows)
                 event += count_of(kind, count)
 
     def merged(self, packets: Iterator[Entry]) -> Iterator[Entry]:
@@ -111,19 +114,19 @@ class Listing:
                 yield from self.merged(self.entries(run.out, False))
 
 
-def packet_entry(line: str, words: List[int], registers: Registers, capture: str) -> Entry:
+def packet_entry(line: str, words: List[int], splitter: Splitter, capture: str) -> Entry:
     """Returns the entry of a packet. Raises ToolError if the player's line is not that of the words."""
     try:
         event, name, word, area = line.split(' ', 3)
         if word == HEADS[words[0]]:
-            return Entry(int(event), name, area, line[:-1], words, registers)
+            return Entry(int(event), name, area, line[:-1], words, splitter.rows, splitter.registers)
     except ValueError:
         pass
     raise ToolError('%s: the player lists `%s` and not a packet of %08x' % (capture, line.strip()[:60], words[0]))
 
 
-def port_entry(event: int, kind: int, count: int, words: Sequence[int]) -> Entry:
-    """Returns the entry of an event at the ports."""
+def port_entry(event: int, kind: int, count: int, words: Sequence[int], rows: int) -> Entry:
+    """Returns the entry of an event at the ports. `rows`: of video memory."""
     name = KINDS[kind].lower()
     line = '%d %s' % (event, name)
     if kind == GP1:
@@ -133,7 +136,7 @@ def port_entry(event: int, kind: int, count: int, words: Sequence[int]) -> Entry
         line += ' %d madr %08x bcr %08x chcr %08x' % (count, madr, bcr, chcr)
     elif kind not in (STAT, SKIP) or count != 1:
         line += ' %d' % count
-    return Entry(event, name, '', line, words, None)
+    return Entry(event, name, '', line, words, rows)
 
 
 def holds(area: str, cell: Sequence[int]) -> bool:

@@ -17,9 +17,10 @@ PIECE = 512                     # words that are split at once: no packet has so
 class Splitter:
     """Takes words as they come. A joint of a polyline is a packet of the command, the colour and vertex that it starts
     from, and its own colour and vertex. `registers`: the values of E1h to E6h; `pixels`: data words that an open load
-    still takes; `changes`: how often a register got another value."""
+    still takes; `changes`: how often a register got another value; `rows`: of video memory."""
 
     def __init__(self, is_tall: bool = False) -> None:
+        self.rows = 1024 if is_tall else 512
         self.kept, self.page = dict(zip(range(0xE1, 0xE7), KEPT[is_tall])), PAGE[is_tall]
         self.registers = dict.fromkeys(range(0xE1, 0xE7), 0)
         self.changes = self.command = self.pixels = 0

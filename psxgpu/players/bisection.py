@@ -60,7 +60,7 @@ def packet_text(steps: Steps, k: int, path: str, program: str) -> Iterator[str]:
     packets = splitter.push(steps.record(k)[2])
     for line, (name, words, _) in zip(listed, itertools.chain(packets, itertools.repeat(nothing))):
         yield line.decode().strip()
-        yield from ('    ' + text for text in fields(name, words, splitter.registers))
+        yield from ('    ' + text for text in fields(name, words, splitter.registers, splitter.rows))
 
 
 def step_text(steps: Steps, k: int, path: str, program: str) -> List[str]:
@@ -71,7 +71,7 @@ def step_text(steps: Steps, k: int, path: str, program: str) -> List[str]:
     before = max((j for j in range(k) if steps.lines[j] < steps.lines[k]), default=None)
     lines = [] if before is None else list(packet_text(steps, before + 1, path, program))
     if kind == GP1:
-        text = 'gp1 %08x: %s' % (words[0], control(words[0]))
+        text = 'gp1 %08x: %s' % (words[0], control(words[0], Splitter(steps.is_tall).rows))
     elif kind != GP0:
         text = KINDS[kind].lower()
     elif lines and lines[0].split()[1] == LOAD:

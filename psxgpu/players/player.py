@@ -4,12 +4,12 @@ import contextlib
 import os
 import shutil
 import subprocess
-import tempfile
 from typing import IO, Iterator, List, Optional, Union
 
 from psxgpu import progress
 from psxgpu.command import BLOCK, ToolError, decimal
 from psxgpu.output import Command
+from psxgpu.stopping import scratch, session
 
 TOP = os.path.dirname(os.path.dirname(os.path.dirname(os.path.abspath(__file__))))
 BUILT = os.path.join(TOP, 'crates', 'psxgpu_tool', 'out', 'psxgpu_tool')
@@ -64,16 +64,11 @@ def failure(status: int, err: bytes) -> str:
 
 class Run:
     """One run of the program on a file, or on what another run writes. `out` is what it writes, to be read as it comes.
-    `err`: a file for standard error, which the caller closes."""
+    `err`: the file of standard error."""
 
-    def __init__(self, player: str, words: List[str], source: IO[bytes], err: IO[bytes]) -> None:
-        self.err = err
-        try:
-            self.child = subprocess.Popen([player] + words, stdin=source, stdout=subprocess.PIPE, stderr=err)
-        except OSError as error:
-            raise ToolError('%s: %s' % (player, error.strerror)) from error
-        assert self.child.stdout is not None
-        self.out = self.child.stdout
+    def __init__(self, child: 'subprocess.Popen[bytes]', err: IO[bytes]) -> None:
+        assert child.stdout is not None
+        self.child, self.err, self.out = child, err, child.stdout
 
     def end(self) -> int:
         """Waits for the end. Returns the status."""
@@ -98,7 +93,12 @@ def playing(player: str, words: List[str], source: Union[str, IO[bytes]]) -> Ite
     with contextlib.ExitStack() as stack:
         file = stack.enter_context(open(source, 'rb')) if isinstance(source, str) else source
         stack.enter_context(progress.following(file, source if isinstance(source, str) else 'psxgpu_tool'))
-        run = Run(player, words, file, stack.enter_context(tempfile.TemporaryFile()))
+        err = stack.enter_context(scratch())
+        try:
+            child = stack.enter_context(session([player, *words], stdin=file, stdout=subprocess.PIPE, stderr=err))
+        except OSError as error:
+            raise ToolError('%s: %s' % (player, error.strerror)) from error
+        run = Run(child, err)
         try:
             yield run
         finally:

@@ -11,12 +11,16 @@ GROUND = (58, 58, 66, FULL)
 SHEET_WIDTH, GAP = 1024, 4
 MOST_SCALE, SHOWN = 4, 256          # of a texture on the page: pixels of a texel, pixels of a side
 PAGE = '''<!doctype html>
-<html lang="en"><meta charset="utf-8"><title>Textures of %(name)s</title><style>
-body { font: 14px sans-serif; margin: 1em; background: #3a3a42; color: #eee }
+<html lang="en"><meta charset="utf-8"><meta name="viewport" content="width=device-width">
+<title>Textures of %(name)s</title><style>
+:root { color-scheme: light dark; --back: light-dark(#fff, #3a3a42); --quiet: light-dark(#555, #bbb);
+  --one: light-dark(#ddd, #4a4a52); --other: light-dark(#eee, #42424a) }
+body { font: 14px/1.4 system-ui, sans-serif; margin: 1em; background: var(--back); overflow-wrap: anywhere }
 main { display: flex; flex-wrap: wrap; gap: 12px; align-items: end; margin-top: 1em }
-figure { margin: 0; max-width: 260px } figcaption { font-size: 11px; color: #bbb } [hidden] { display: none }
-img { image-rendering: pixelated; background: repeating-conic-gradient(#4a4a52 0 25%%, #42424a 0 50%%) 0 0/16px 16px }
-input[type=search] { width: 24em } output { margin-left: 1em } a { color: #9cf }
+figure { margin: 0; max-width: min(260px, 100%%) } figcaption { font-size: 11px; color: var(--quiet) } [hidden] { display: none }
+img { max-width: 100%%; height: auto; image-rendering: pixelated;
+  background: repeating-conic-gradient(var(--one) 0 25%%, var(--other) 0 50%%) 0 0/16px 16px }
+input[type=search] { width: min(24em, 100%%); box-sizing: border-box } output { margin-left: 1em }
 </style>
 <h1>Textures of %(name)s</h1>
 <p>%(count)d textures, in the order of their first use; all in one picture: <a href="sheet.png">sheet.png</a>.</p>
@@ -43,7 +47,7 @@ show()
 </script>
 </html>
 '''
-FIGURE = ('<figure data-version="%d"><a href="%s"><img src="%s" width="%d" height="%d" alt="" loading="lazy"></a>'
+FIGURE = ('<figure data-version="%d"><a href="%s"><img src="%s" width="%d" height="%d" alt="%s" loading="lazy"></a>'
           '<figcaption>%s</figcaption></figure>')
 
 
@@ -63,8 +67,8 @@ def figures(textures: Sequence[Texture]) -> List[str]:
     for it in textures:
         seen[it.source] = version = seen.get(it.source, 0) + 1
         scale = max(1, min(MOST_SCALE, SHOWN // max(it.width, it.height)))
-        out.append(FIGURE % (version, it.name, it.name, it.width * scale, it.height * scale,
-                             html.escape(caption(it, version, counts[it.source]))))
+        text = html.escape(caption(it, version, counts[it.source]))
+        out.append(FIGURE % (version, it.name, it.name, it.width * scale, it.height * scale, text.partition(';')[0], text))
     return out
 
 

@@ -4,6 +4,7 @@ from __future__ import annotations
 from typing import Dict, List, NamedTuple, Optional, Sequence, Tuple
 
 from psxgpu.packets.parts import polygon_parts, rectangle_parts, texcoord_of
+from psxgpu.packets.fields import window_text
 from psxgpu.packets.grammar import POLYGON
 from psxgpu.packets.texels import WINDOW, is_textured, page_corner, palette_corner, rectangle_span
 
@@ -38,8 +39,7 @@ class Source(NamedTuple):
         parts = ['page (%d, %d) of %d bits' % (*self.page, self.bits)]
         if self.palette:
             parts.append('palette (%d, %d)' % self.palette)
-        if self.window:
-            parts.append('window %05x' % self.window)
+        parts += window_text(self.window)
         return ', '.join(parts + ['u %d to %d, v %d to %d' % (u1, u2, v1, v2)])
 
 

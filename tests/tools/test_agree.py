@@ -1,8 +1,12 @@
 """Two players on random captures."""
 import os
+import unittest
 
-from tests import support
 from psxgpu.packets.generated import CLASSES
+from psxgpu.players.agreement import Score, compare_class
+from psxgpu.players.named import player_of
+from tests import support
+from tests.tools import wrong_players
 
 
 class Agreement(support.InFolder):
@@ -42,3 +46,25 @@ class Agreement(support.InFolder):
     def test_classes(self):
         done = support.run_tool('agree', '--classes')
         self.assertEqual((done.returncode, done.stdout.splitlines()), (0, list(CLASSES)))
+
+
+@support.needs_player
+class Ground(unittest.TestCase):
+    """Random cells have no period: a player that takes other texels differs."""
+
+    def equal(self, name, fault):
+        score = Score(name, 3)
+        compare_class(score, [player_of(support.PLAYER), wrong_players.Wrong(fault)])
+        self.assertFalse(score.lost)
+        return score.equal
+
+    def test_pages(self):
+        for name in ('rectangles, textured', 'quads, textured one to one', 'triangles, textured, scaled'):
+            self.assertEqual(self.equal(name, wrong_players.column_8), 0, name)
+
+    def test_windows(self):
+        self.assertEqual(self.equal('texture windows', wrong_players.window_without_bit_4), 0)
+
+    def test_lines(self):
+        self.assertEqual(self.equal('lines of two colours', wrong_players.one_colour_lines), 0)
+        self.assertEqual(self.equal('fills', wrong_players.one_colour_lines), 3)

@@ -55,6 +55,8 @@ if command == 'vram':
     sys.stdout.buffer.write(dump)
 '''
 
+FILLS_DECIDED = '    decided by: psx-spx (MACHINE.md, Fills: corner and size are rounded, cut, and wrap)'
+
 
 class Audits(unittest.TestCase):
     def setUp(self):
@@ -100,7 +102,8 @@ class Audits(unittest.TestCase):
         status, lines = self.audit(self.fills(), self.brighter)
         self.assertEqual(status, 1)
         self.assertEqual(lines, ['| fill | 2 | 0 | 192 | 192 | 64 |', '| load | 1 | 1 | 4 | 0 | 0 |',
-                                 'fill: event 3 020000f8: 64 cells, first (16, 8): ours 001f, theirs 0000'])
+                                 'fill: event 3 020000f8: 64 cells, first (16, 8): ours 001f, theirs 0000',
+                                 FILLS_DECIDED])
 
     def test_differences_do_not_add_up(self):
         """A row too few in each: the second fill's last row is another one than the first's."""
@@ -133,7 +136,8 @@ class Audits(unittest.TestCase):
         self.assertEqual(lines[0], '| fill | 1 | 0 | 128 | 128 | 0 |')
         _, lines = self.audit(self.fills(), self.brighter, '--last', '3')
         self.assertEqual(lines, ['| fill | 1 | 0 | 64 | 64 | 64 |',
-                                 'fill: event 3 020000f8: 64 cells, first (16, 8): ours 001f, theirs 0000'])
+                                 'fill: event 3 020000f8: 64 cells, first (16, 8): ours 001f, theirs 0000',
+                                 FILLS_DECIDED])
 
     def refusal(self, capture, theirs='right', path=None):
         errors = io.StringIO()

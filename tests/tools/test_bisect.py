@@ -21,6 +21,8 @@ for k in range(0, len(words) // 3 * 3, 3):
 sys.stdout.buffer.write(m)
 '''
 
+FILLS_DECIDED = 'decided by: psx-spx (MACHINE.md, Fills: corner and size are rounded, cut, and wrap)'
+
 
 @support.needs_player
 class Bisected(support.InFolder):
@@ -41,7 +43,7 @@ class Bisected(support.InFolder):
         status, lines, err = self.bisect(capture)
         self.assertEqual((status, err), (1, ''))
         self.assertEqual(lines, ['they differ from here on, packet 3 of 4:', '14 fill 020000f8 64 0 79 0',
-                                 '    corner (64, 0), size 16 by 1', '    colour 248 0 0',
+                                 '    corner (64, 0), size 16 by 1', '    colour 248 0 0', FILLS_DECIDED,
                                  'first differing cell: (64, 0): ours 001f, theirs 0000', 'cells that differ: 16',
                                  'their box: 64 0 79 0', 'by steps: 16 to 31: 16'])
 

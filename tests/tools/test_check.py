@@ -15,7 +15,7 @@ class Checked(support.InFolder):
 
     def test_examples(self):
         self.assertEqual(self.report(support.example('two-fills')),
-                         (0, ['version: 1', 'events: 12: 6 Gp0, 6 Gp1', 'frames: 1',
+                         (0, ['version: 1', 'events: 12: 6 Gp0, 6 Gp1', 'frames: 2',
                               'packets: fills and words that do nothing 2', 'not finished: nothing',
                               'slim leaves out: 0 of 12 events']))
 

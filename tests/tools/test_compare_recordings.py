@@ -8,7 +8,8 @@ from psxgpu import capture as c
 from psxgpu.image import read_png
 
 # A player whose picture is the colour of the last fill, as many cells wide as there were fills before, and whose video
-# memory begins with the colours of all fills. It refuses a fill of colour 99.
+# memory begins with the colours of all fills. It refuses a fill of colour 99. With `sums` it writes a picture at the end,
+# with `list` a line for each fill.
 PLAYER = '''#!%s
 import hashlib, sys
 from psxgpu.capture import events, records
@@ -19,11 +20,14 @@ def picture():
 def show(event):
     if mode == 'sums':
         print(event, max(len(colors), 1), 1, hashlib.sha256(picture()).hexdigest(), flush=True)
+event = 0
 for event, (kind, _, found) in enumerate(events(records(sys.stdin.buffer.read())[1]), 1):
     if kind == 2:
         words.append(found[0])
         if len(words) == 3:
             colors.append(words[0] & 255)
+            if mode == 'list':
+                print(event, 'fill %%08x 0 0 15 0' %% words[0])
             words = []
             if colors[-1] == 99:
                 sys.exit(print('small: no 99 at event %%d' %% event, file=sys.stderr) or 2)
@@ -31,6 +35,8 @@ for event, (kind, _, found) in enumerate(events(records(sys.stdin.buffer.read())
         show(event)
 memory = (b''.join(bytes([color, 0]) for color in colors)).ljust(2048, bytes(1))
 if mode == 'sums':
+    if not marks:
+        show(event + 1)
     print('vram', hashlib.sha256(memory).hexdigest())
 if mode == 'vram':
     sys.stdout.buffer.write(memory)
@@ -79,10 +85,21 @@ class Recordings(support.InFolder):
     def test_marks(self):
         pair = film(1, 2, end=0x3F000000), film(1, 3, end=0x3F000000)
         self.assertEqual(self.compare(*pair, '--marks')[1][0], 'first differing frame: 2, event 8 and event 8')
-        status, lines = self.compare(*pair)
-        self.assertEqual((status, lines[0]), (1, 'equal: 0 frames'))
+        self.assertEqual(self.compare(*pair)[1][0], 'first differing frame: 1, event 8 and event 8')
+        status, lines = self.compare(film(1, 2, end=0x3F000000), film(3, 2, end=0x3F000000))
+        self.assertEqual((status, lines[0]), (1, 'equal: 1 frame'))
         self.assertRegex(lines[1], '^video memory after the end differs: ours [0-9a-f]{64}, theirs [0-9a-f]{64}$')
-        self.assertEqual(lines[2], 'first differing cell: (1, 0): ours 0002, theirs 0003')
+        self.assertEqual(lines[2], 'first differing cell: (0, 0): ours 0001, theirs 0003')
+
+    def test_what_follows_the_last_end_is_a_frame_if_it_has_a_packet(self):
+        alone = 'first differing frame: 2, event %d of theirs alone'
+        for end, words, rest in ((0x05000000, [], '2 by 1 '), (0x3F000000, ['--marks'], 'no picture')):
+            self.assertEqual(self.compare(film(1, end=end), film(1, end=end).stat(), *words),
+                             (0, ['equal: 1 frame, and video memory']))
+            lines = self.compare(film(1, end=end), film(1, end=end).gp0(c.fill(3, 0, 0, 16, 1)), *words)[1]
+            self.assertEqual(lines[0], alone % 7)
+            self.assertEqual(lines[1][:len(rest)], rest)
+        self.assertEqual(self.compare(film(1).gp0(2, 0), film(1)), (0, ['equal: 1 frame, and video memory']))
 
     def test_other_sizes(self):
         status, lines = self.compare(film(1), film(1).gp0(c.fill(1, 0, 0, 16, 1)).gp1(5 << 24), 'd.png')

@@ -1,7 +1,9 @@
 """The command conform: on the plain model, and on models with a planted fault."""
 import contextlib
 import io
+import base64
 import json
+import re
 import xml.etree.ElementTree
 from unittest import mock
 
@@ -70,8 +72,10 @@ class Conform(InFolder):
         with open(paths[1]) as file:
             self.assertEqual(json.load(file)['dither/off'], ['passed', ''])
         page = self.read('page.html').decode()
-        for text in ('dither/table', 'alt="theirs"', 'alt="ours"', 'alt="difference"', 'the shown picture'):
+        for text in ('dither/table', 'alt="theirs"', 'alt="ours"', 'alt="difference"', 'the shown picture', 'Suite 2 of psxgpu'):
             self.assertIn(text, page)
+        saved = re.search('download="dither-table.capture" href="data:application/octet-stream;base64,([^"]*)"', page)
+        self.assertEqual(saved and base64.b64decode(saved[1])[:8], b'PSXGPUC1')
 
     def test_what_a_player_does_not_take(self):
         class VramAlone(Model):

@@ -1,5 +1,6 @@
 """Folders of captures, recorded and checked."""
 import os
+import re
 from xml.etree import ElementTree
 
 from tests import support
@@ -69,7 +70,10 @@ different deep/b.capture
         self.assertEqual([suite.get('failures'), suite.get('errors')], ['2', '0'])
         self.assertEqual(suite[1].get('classname'), 'deep')
         self.assertIn('event 10', suite[1][0].get('message'))
-        self.assertEqual(self.text('corpus-report/report.html').count('data:image/png;base64,'), 2)
+        page = self.text('corpus-report/report.html')
+        self.assertEqual(re.findall('<img alt="([^"]*)" width="([0-9]*)"', page), 2 * [
+            ('video memory of the player from (8, 0)', '256'), ('video memory of the reference from (8, 0)', '256'),
+            ('what differs, in red', '256')])
 
     def test_rows_that_are_faults(self):
         for name in ('crash', 'good', 'hang', 'killed', 'no'):
@@ -136,4 +140,7 @@ class Reduced(Corpus):
         self.assertEqual(records(self.read('corpus-report/a.capture'))[1],
                          [(GP0, 3, [0x020000F8, 0, 0x00010001])])     # a width of 1 is 16
         self.assertEqual(self.read('corpus-report/a.png')[:4], b'\x89PNG')
+        linked = re.findall('<a href="([^"]*)">', self.text('corpus-report/report.html'))
+        self.assertEqual(linked[0], 'a.capture')
+        self.assertTrue(all(os.path.exists(self.path('corpus-report/' + name)) for name in linked))
         self.expect(2, '', '--reduce needs --reference', *check)

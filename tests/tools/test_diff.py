@@ -2,6 +2,8 @@
 import gzip
 import random
 import re
+import shutil
+import subprocess
 import unittest
 
 from tests import support
@@ -30,19 +32,54 @@ def applied(lines, before):
     return out + before[at:]
 
 
-class Unified(unittest.TestCase):
+def random_sides(r, most):
+    """Two sides that are mostly equal. The lines are few, so that they fit at many places."""
+    base = [tuple(r.choice('abcd') for _ in range(r.randrange(1, 4))) for _ in range(r.randrange(most))]
+    for name in ('ours', 'theirs'):
+        some = [lines if r.random() > .1 else r.choice((('x',), (*lines, 'y'), lines)) for lines in base]
+        kept = [lines for lines in some if r.random() > .05]
+        yield Side(name, [Text(at, lines) for at, lines in enumerate(kept)])
+
+
+class Unified(support.InFolder):
     def test_it_makes_one_of_the_other(self):
         r = random.Random(1)
         for _ in range(300):
-            sides = []
-            base = [tuple(r.choice('abcd') for _ in range(r.randrange(1, 4))) for _ in range(r.randrange(30))]
-            for _ in range(2):
-                some = [lines if r.random() > .1 else r.choice((('x',), (*lines, 'y'), lines)) for lines in base]
-                kept = [lines for lines in some if r.random() > .05]
-                sides.append(Side('side', [Text(at, lines) for at, lines in enumerate(kept)]))
-            before, after = (side.lines(0, len(side.entries)) for side in sides)
+            ours, theirs = random_sides(r, 30)
+            found = list(unified(ours, theirs))
+            self.assertEqual(applied(found, ours.lines) if found else ours.lines, theirs.lines)
+
+    @unittest.skipUnless(shutil.which('patch'), 'patch is not installed')
+    def test_patch_takes_it(self):
+        """In both directions, without a hunk that is moved."""
+        r = random.Random(2)
+        for _ in range(60):
+            sides = list(random_sides(r, 60))
             found = list(unified(*sides))
-            self.assertEqual(applied(found, before) if found else before, after)
+            self.write('diff', '\n'.join(found) + '\n')
+            for before, after, words in ((*sides, []), (*sides[::-1], ['-R'])) if found else ():
+                self.write('before', ''.join(line + '\n' for line in before.lines))
+                done = subprocess.run(['patch', '--fuzz=0', '-o', 'after', *words, 'before', 'diff'], cwd=self.folder,
+                                      capture_output=True, text=True)
+                self.assertEqual((done.returncode, done.stderr), (0, ''), done.stdout)
+                self.assertNotIn('offset', done.stdout)
+                self.assertEqual(self.read('after').decode().splitlines(), after.lines)
+
+    def test_context(self):
+        """Two entries are shown whole, and as many lines before as after; at an end of the file, what is there."""
+        entries = [Text(k, ('%d' % k, '    field')) for k in range(9)]
+        found = list(unified(Side('a', entries), Side('b', [*entries[:4], Text(4, ('4', '    other')), *entries[5:]])))
+        around = [' ' + line for entry in entries for line in entry.lines][4:]
+        self.assertEqual(found, ['--- a', '+++ b', '@@ -5,11 +5,11 @@ event 4, event 4', *around[:5], '-    field',
+                                 '+    other', *around[6:11]])
+        found = list(unified(Side('a', entries), Side('b', entries[1:])))
+        self.assertEqual(found[2:], ['@@ -1,6 +1,4 @@ event 0, event 1', '-0', '-    field', ' 1', '     field', ' 2',
+                                     '     field'])
+
+    def test_names(self):
+        side, other = [Text(1, ('x',))], [Text(1, ('y',))]
+        found = list(unified(Side('a b', side), Side('c"\n', other)))
+        self.assertEqual(found[:2], ['--- a b\t', '+++ "c\\042\\012"'])
 
     def test_nothing(self):
         side = Side('a', [Text(1, ('x',))])

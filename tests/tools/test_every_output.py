@@ -8,6 +8,7 @@ import shutil
 
 from psxgpu import capture as c
 from psxgpu.__main__ import TOOLS, module_of
+from psxgpu.commands import corpus
 from psxgpu.command import ToolError, parser_of, status_of
 from psxgpu.output import Grown, Role, Stem, Target, Text, Tree
 from tests import support
@@ -31,6 +32,7 @@ RUNS = {
     'trim': ['in.capture', '--frames', '1-1'], 'diff': ['in.capture', 'in2.capture'],
     'packets': ['in.capture'], 'check': ['in.capture'], 'bisect': ['in.capture', './ours', './other'],
     'agree': ['./ours', './other', '1', 'fills'], 'selftest': [],
+    'fuzz': ['./other', '--ours', './ours', '--captures', '48', '--jobs', '1', '--no-suite', '-o', 'new'],
 }
 READ = {('corpus check', '--golden')}       # what is an output of other actions only
 USER = ('index.html', 'report.html', 'expected.tsv', 'sheet.png', '001.capture', 'played.sums',
@@ -45,15 +47,20 @@ def scene():
     return capture.gp1(0x05000001).gp0(c.fill(0xFF, 0, 100, 16, 16)).gp1(0x05000002)
 
 
-def outputs_of(parser):
-    """The options of a parser that name an output, each with what it is."""
-    found = {}
-    for action in parser._actions:
-        with contextlib.suppress(argparse.ArgumentTypeError):
-            kind = action.type('2') if callable(action.type) and action.option_strings else None
-            if isinstance(kind, (Target, Tree, Stem)):
-                found[action.option_strings[-1]] = kind
-    return found
+def kind_of(action):
+    """What an argument of a parser names."""
+    with contextlib.suppress(argparse.ArgumentTypeError):
+        return action.type('2') if callable(action.type) else None
+
+
+def outputs_of(name):
+    """The options of a row's tool that name an output, each with what it is."""
+    tool, _, action_of_corpus = name.partition(' ')
+    actions = parser_of(module_of(tool), tool)._actions
+    found = {action.option_strings[-1]: kind_of(action) for action in actions if action.option_strings}
+    if action_of_corpus:
+        found['--output'] = corpus.OUTPUTS[action_of_corpus][1]('2')
+    return {option: kind for option, kind in found.items() if isinstance(kind, (Target, Tree, Stem))}
 
 
 @support.needs_player
@@ -106,6 +113,21 @@ class EveryOutput(support.InFolder):
 
     def test_each_tool_has_a_row(self):
         self.assertEqual({name.split()[0] for name in RUNS}, set(TOOLS))
+        actions = {name.split()[1] for name in RUNS if ' ' in name}
+        self.assertEqual((actions, actions), (set(corpus.WANTED), set(corpus.OUTPUTS)))
+
+    def test_no_output_is_left_out(self):
+        """Each argument that names an output, also one that has a place, has an option that is tried here. An option
+        -o is one of them."""
+        for tool in TOOLS:
+            rows = [name for name in RUNS if name.split()[0] == tool]
+            tried = set().union(*map(outputs_of, rows))
+            actions = parser_of(module_of(tool), tool)._actions
+            dests = {action.dest for action in actions if tried & set(action.option_strings)}
+            for action in actions:
+                with self.subTest(tool, argument=action.dest):
+                    if isinstance(kind_of(action), (Target, Tree, Stem)) or '-o' in action.option_strings:
+                        self.assertIn(action.dest, dests)
 
     def test_each_argument_has_a_role(self):
         """A text of an argument is a file that is read or written, a command, or `Text`."""
@@ -123,7 +145,7 @@ class EveryOutput(support.InFolder):
         before = self.contents()
         for name, words in RUNS.items():
             tool = name.split()[0]
-            for option, kind in outputs_of(parser_of(module_of(tool), tool)).items():
+            for option, kind in outputs_of(name).items():
                 for path in () if isinstance(kind, Grown) or (name, option) in READ else self.candidates(kind, words):
                     with self.subTest(name, option=option, path=path):
                         status, said = self.ends(tool, [*self.without(words, option), option, path])
@@ -133,9 +155,20 @@ class EveryOutput(support.InFolder):
 
     @staticmethod
     def without(words, option):
-        """The words without an option and its value."""
-        at = words.index(option) if option in words else words.index('-o') if option == '--output' and '-o' in words else -1
+        """The words without an option and its value. -o is also the output of an action of corpus."""
+        name = corpus.OUTPUTS[words[0]][0] if words[:1] and words[0] in corpus.OUTPUTS else ''
+        same = {option, '-o', '--' + name} if option == '--output' else {option}
+        at = next((k for k, word in enumerate(words) if word in same), -1)
         return words[:at] + words[at + 2:] if at >= 0 else words
+
+    def test_output_of_corpus(self):
+        """-o is refused as the option whose place it takes, and is not named twice."""
+        for name in ('record', 'join'):
+            words = self.without(RUNS['corpus ' + name], '--output')
+            for more, text in ((['-o', 'new.gz'], 'argument -o/--output: new.gz: .gz is not written'),
+                               (['-o', 'new', '--golden', 'new2'], 'two outputs are named: new2 and new')):
+                status, said = self.ends('corpus', [*words, *more])
+                self.assertEqual((status, said.startswith(text)), (2, True), said)
 
     def test_each_output_alone(self):
         """To a new name it is written, and the same tool writes it again."""
@@ -143,7 +176,7 @@ class EveryOutput(support.InFolder):
             tool = name.split()[0]
             if tool == 'film' and not shutil.which('ffmpeg'):
                 continue
-            for option, kind in outputs_of(parser_of(module_of(tool), tool)).items():
+            for option, kind in outputs_of(name).items():
                 for _ in range(0 if (name, option) in READ else 2):
                     path = 'fresh' + option + ('.mp4' if tool == 'film' else '')
                     with self.subTest(name, option=option):
@@ -159,12 +192,11 @@ class EveryOutput(support.InFolder):
             self.assertEqual([name for name in folders + names if '.part' in name], [])
 
     def test_two_outputs_are_two(self):
-        for tool, words in RUNS.items():
-            tool = tool.split()[0]
-            files = [option for option, kind in outputs_of(parser_of(module_of(tool), tool)).items()
-                     if isinstance(kind, Target)]
+        for name, words in RUNS.items():
+            tool = name.split()[0]
+            files = [option for option, kind in outputs_of(name).items() if isinstance(kind, Target)]
             for one, other in zip(files, files[1:]):
-                with self.subTest(tool, one=one, other=other):
+                with self.subTest(name, one=one, other=other):
                     rest = self.without(self.without(words, one), other)
                     status, said = self.ends(tool, [*rest, one, 'twice.png', other, './twice.png'])
                     self.assertEqual((status, os.path.exists('twice.png')), (2, False), said)

@@ -40,13 +40,14 @@ class Films(support.InFolder):
         return ['--ffmpeg', self.path('ffmpeg')]
 
     def test_marks_and_flips(self):
-        """Marks count if there are any. Each of three frames has two flips, its screen and its display start, and the
-        end shows one picture more. The small ffmpeg writes its input."""
+        """Marks count if there are any. Each of three frames has two flips, its screen and its display start. A packet
+        after them makes a frame more. The small ffmpeg writes its input."""
         capture = shows([(320, 240)] * 3)
         capture.gp1(0x3F000000).gp1(0x3F000000).save(self.path('a.capture'))
+        capture.gp0(c.fill(0, 0, 0, 16, 1)).save(self.path('more.capture'))
         words = self.small_ffmpeg('shift $(($# - 1)); cat > "$1"\n')
-        for more, pictures in (([], 2), (['--flips'], 7)):
-            self.assertEqual(self.film('a.capture', 'out.bin', *words, *more).returncode, 0)
+        for name, more, pictures in (('a', [], 2), ('a', ['--flips'], 6), ('more', ['--flips'], 7)):
+            self.assertEqual(self.film(name + '.capture', 'out.bin', *words, *more).returncode, 0)
             self.assertEqual(self.read('out.bin').count(b'P6\n320 240\n'), pictures)
 
     def test_failures_leave_the_old_film(self):
@@ -54,7 +55,7 @@ class Films(support.InFolder):
         shows([(320, 240)]).save(self.path('good'))
         self.write('cut', self.read('good')[:-6])
         c.Capture().gp1(0x06200200).save(self.path('dark'))     # no column is shown
-        words = self.small_ffmpeg('echo it is full >&2; exit 1\n')
+        words = self.small_ffmpeg('echo it is warned >&2; echo it is full >&2; exit 1\n')
         for source, out, more, said in (('good', 'film.mp4', words, 'ffmpeg: it is full'),
                                         ('cut', 'film.mp4', words, 'cut: psxgpu: truncated'),
                                         ('dark', 'film.mp4', words, 'dark: it shows no picture'),

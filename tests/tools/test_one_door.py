@@ -11,7 +11,7 @@ DOOR = os.path.join(PACKAGE, 'output')
 ALLOWED = {
     'os': {'R_OK', 'SEEK_CUR', 'SEEK_END', 'X_OK', 'PathLike', 'access', 'devnull', 'environ', 'fsdecode', 'fsencode',
            'fspath', 'fstat', 'killpg', 'listdir', 'lseek', 'path', 'pathsep', 'read', 'sched_getaffinity', 'sep', 'stat',
-           'walk'},
+           'times', 'walk'},
     'shutil': {'which'},
     'io': {'BytesIO', 'StringIO', 'TextIOWrapper'},
     'gzip': {'BadGzipFile', 'GzipFile'},

@@ -55,11 +55,11 @@ class Splits(unittest.TestCase):
 
 
 class Words(unittest.TestCase):
-    def said(self, words, **registers):
-        splitter = Splitter()
+    def said(self, words, is_tall=False, **registers):
+        splitter = Splitter(is_tall)
         splitter.registers.update((int(name, 16), value) for name, value in registers.items())
         (name, its, _), = list(splitter.push(words))
-        return fields(name, its, splitter.registers)
+        return fields(name, its, splitter.registers, splitter.rows)
 
     def test_polygon(self):
         self.assertEqual(self.said(ALL_KINDS[0][1]), [
@@ -81,6 +81,20 @@ class Words(unittest.TestCase):
         self.assertEqual(self.said(c.drawing_area(1, 2, 3, 4)[1:]), ['drawing area: bottom right (3, 4)'])
         self.assertEqual(self.said(c.mask_setting(keep=True)), ['mask setting: cells with bit 15 are kept'])
 
+    def test_rows_of_video_memory(self):
+        """Y has nine bits, ten in the tall profile: 1023 is row 511 of 512 rows. Bit 11 of E1h is of the tall alone."""
+        for is_tall, row in ((False, 511), (True, 1023)):
+            for packet, text in ((c.copy(1, 0, 3, 0, 4, 5), 'source (1, %d), target (3, %d), size 4 by 5' % (row, row)),
+                                 (c.load(1, 0, 1, 1, [0]), 'target (1, %d), size 1 by 1' % row),
+                                 (c.store(1, 0, 1, 1), 'source (1, %d), size 1 by 1' % row),
+                                 (c.fill(0, 16, 0, 16, 1), 'corner (16, %d), size 16 by 1' % row)):
+                places = (1, 2) if packet[0] >> 24 == 0x80 else (1,)
+                words = [word | 1023 << 16 if at in places else word for at, word in enumerate(packet)]
+                self.assertEqual(self.said(words, is_tall)[0], text)
+            corner = [0xE3000000 | 1023 << 10 | 5]
+            self.assertEqual(self.said(corner, is_tall), ['drawing area: top left (5, %d)' % row])
+            self.assertEqual(control(0x05000000 | 1023 << 10 | 5, row + 1), 'display start (5, %d)' % row)
+
     def test_texts_are_the_callers(self):
         """A caller may change the lists: texts that are kept stay as they are."""
         for words in (ALL_KINDS[0][1], c.mask_setting(), c.drawing_offset(1, 2)):
@@ -99,9 +113,9 @@ class Words(unittest.TestCase):
                                          'texcoords (%d, %d) (0, 0) (0, 0)' % (k % 256, k // 256)])
 
     def test_control_words(self):
-        self.assertEqual(control(0x05000000 | 16 << 10 | 8), 'display start (8, 16)')
-        self.assertEqual(control(0x08000025), 'display mode: width 320, NTSC, double height, interlaced')
-        self.assertEqual((control(0x40000000), control(0x1F000007)), ('reset', 'information 7'))
+        self.assertEqual(control(0x05000000 | 16 << 10 | 8, 512), 'display start (8, 16)')
+        self.assertEqual(control(0x08000025, 512), 'display mode: width 320, NTSC, double height, interlaced')
+        self.assertEqual((control(0x40000000, 512), control(0x1F000007, 512)), ('reset', 'information 7'))
         notes = ((0, 0x1F000000), (8, 0x50005000), (9, 7), (7, 0xE1000000))
         self.assertEqual([class_name(*note) for note in notes], ['irq', 'finish', 'pixels', 'environment'])
 
@@ -125,6 +139,14 @@ class Listed(support.InFolder):
         self.assertEqual(self.listed(support.example('turns'), *names).stdout.splitlines(),
                          ['15 begin 2 madr 00001000 bcr 00000000 chcr 01000401', '16 turn 1', '18 turn 3', '24 skip',
                           '25 stat'])
+
+    def test_rows(self):
+        """A row beyond video memory is one within it, and in both heights the text says which."""
+        for version, row in ((1, 511), (3, 1023)):
+            capture = c.Capture(version).gp0(c.load(0, 1023, 1, 1, [7])).gp1(0x05000000 | 1023 << 10).bytes()
+            done = self.listed(self.write('capture', capture), '--line')
+            self.assertEqual([line.partition(' | ')[2] for line in done.stdout.splitlines()],
+                             ['target (0, %d), size 1 by 1' % row, 'display start (0, %d)' % row], done)
 
     def test_filters(self):
         path = self.write('capture', c.Capture().gp0(c.fill(1, 1008, 0, 32, 4), c.fill(2, 0, 8, 16, 1)).bytes())

@@ -4,9 +4,12 @@ import signal
 import subprocess
 import sys
 import time
+import unittest
+from unittest import mock
 
 from tests import support
 from psxgpu import capture as c
+from psxgpu import stopping
 
 # Runs a tool, and stops itself after some seconds.
 STOPS = '''
@@ -22,6 +25,45 @@ threading.Thread(target=stop, daemon=True).start()
 begun.set()
 sys.exit(main(%r))
 '''
+
+
+class Held(unittest.TestCase):
+    """A signal that comes while something is made: it is known at that time, and removed."""
+
+    @staticmethod
+    def after(make, made):
+        """Returns what makes a thing and is then stopped."""
+        def making(*words, **settings):
+            made.append(make(*words, **settings))
+            os.kill(os.getpid(), signal.SIGTERM)
+            time.sleep(0.01)        # the signal is handled
+            return made[-1]
+        return making
+
+    def stopped_in(self, name, block):
+        """Runs a block that is stopped where it makes a thing. Returns the thing."""
+        made = []
+        module, _, function = name.partition('.')
+        place = getattr(stopping, module)
+        with mock.patch.object(place, function, self.after(getattr(place, function), made)):
+            with self.assertRaises(stopping.Stopped) as found, stopping.stoppable():
+                block()
+        self.assertEqual((found.exception.number, stopping.HELD, len(made)), (signal.SIGTERM, [], 1))
+        return made[0]
+
+    def test_a_process(self):
+        def block():
+            with stopping.session(['sleep', '300'], stdout=subprocess.PIPE):
+                self.fail('the block has begun')
+        child = self.stopped_in('subprocess.Popen', block)
+        self.assertEqual((child.returncode, child.stdout.closed, child in stopping.RUNNING),
+                         (-signal.SIGKILL, True, False))
+
+    def test_a_file(self):
+        def block():
+            with stopping.scratch():
+                self.fail('the block has begun')
+        self.assertTrue(self.stopped_in('tempfile.TemporaryFile', block).closed)
 
 
 class Stopped(support.InFolder):

@@ -55,6 +55,10 @@ class Ranges(unittest.TestCase):
         self.assertEqual(found, Source((640, 0), 4, (32, 300), 0, (5, 6, 12, 9)))
         self.assertEqual(found and found.boxes(), [(641, 6, 3, 4), (32, 300, 16, 1)])
         self.assertIsNone(source_of('rectangle', c.rectangle(0, 1, 2, 8, 4), registers))
+        registers[0xE2] = 3 | 1 << 10       # mask 3 and offset 1 in X, in steps of 8
+        found = source_of('rectangle', words, registers)
+        self.assertEqual(found and found.text(), 'page (640, 0) of 4 bits, palette (32, 300), '
+                         'window mask (24, 0) offset (8, 0), u 8 to 15, v 6 to 9')
 
 
 class Written(unittest.TestCase):
@@ -143,6 +147,7 @@ class Commands(support.InFolder):
         self.assertEqual(rows, sorted(want))
         page = self.read('out/index.html').decode()
         self.assertIn('version 2 of 2', page)
+        self.assertIn('alt="4 by 1, page (640, 0) of 4 bits', page)
         self.assertIn('palette (0, 300), u 0 to 3, v 0 to 0; event 33, 2 packets', page)
 
     def test_heat(self) -> None:

@@ -29,5 +29,5 @@ Exit status: 0 all was written; 1 wrong arguments, or binary output to a termina
 /// The output of `--version`.
 pub const VERSION: &[u8] = b"psxgpu_tool 1.0.0
 plays captures of versions 1, 2 and 3, and snapshots of version 1
-proved with rattle-kit-13b logic dac8208d650f15bf
+proved with the logic dac8208d650f15bf of Rattle
 ";

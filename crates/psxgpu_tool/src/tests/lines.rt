@@ -39,7 +39,7 @@ play < gp0 a0000000 0 10001 1f000000, gp0 a0000000 10000 10001 1f00, gp0 c000000
 report < gp0 e407ffff 20ffffff 0 8 80000 |;
 --version < stat
     | psxgpu_tool 1.0.0 / plays captures of versions 1, 2 and 3, and snapshots of version 1 /
-    proved with rattle-kit-13b logic dac8208d650f15bf;
+    proved with the logic dac8208d650f15bf of Rattle;
 ";
 
 /// Captures that are refused, and arguments that name no command, with valid neighbours.
