@@ -132,6 +132,7 @@ def main() -> int:
     if given.top not in needs or given.jobs is not None and given.jobs < 1:
         words.error('CRATE is a crate of crates.txt, and JOBS 1 or more')
     restore()
+    subprocess.run([sys.executable, '-m', 'proving.kept', given.top], cwd=ROOT, check=False)
     left: List[str] = []
     for name in all_below(needs, given.top):
         if not is_known(name) or {*all_below(needs, name)} & {*left}:

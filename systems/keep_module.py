@@ -3,8 +3,8 @@
 
     python3 -m systems.keep_module psxgpu_tool|psxgpu_c x86_64|aarch64
 
-The build is the kit's own, `rattle build --target`, over the proofs that `make run` and `make lib` keep: a function
-that is proved is not proved again. It makes three files in out/modules:
+The build is the kit's own, `rattle build --target`, over the libraries that `proving.progress` built: a function that is
+proved is not proved again. It makes three files in out/modules:
 
     CRATE-PROCESSOR.o (program) or .a (library)     what the kit made
     CRATE-PROCESSOR.bc                              the module, from which `retarget.py` makes other systems' code

@@ -37,9 +37,11 @@ endif
 
 # The module, and what the kit makes of it, which is newer.
 $(MODULES)/psxgpu_tool-%.bc: $(BUILT)/psxgpu_tool
+	@python3 -m proving.progress $(JOBS)
 	python3 -m systems.keep_module psxgpu_tool $*
 
 $(MODULES)/psxgpu_c-%.bc: $(PROVED)
+	@python3 -m proving.progress --top psxgpu_c $(JOBS)
 	python3 -m systems.keep_module psxgpu_c $*
 
 $(MODULES)/psxgpu_c-%.a: $(MODULES)/psxgpu_c-%.bc ;

@@ -53,7 +53,7 @@ class Progress(unittest.TestCase):
             os.makedirs(self.path('crates', crate, 'src'))
             self.write('fn it() {}\n', 'crates', crate, 'src', 'lib.rt')
         os.mkdir(self.path('proving'))
-        for name in '__init__.py', 'progress.py', 'plan.py', 'copies.py':
+        for name in '__init__.py', 'progress.py', 'plan.py', 'copies.py', 'kept.py':
             shutil.copy(os.path.join(ROOT, 'proving', name), self.path('proving'))
         self.write(CRATES, 'crates.txt')
         self.write(RT, 'rt')
