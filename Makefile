@@ -31,9 +31,12 @@ PREFIX = /usr/local
 PYTHON := $(firstword $(wildcard /usr/bin/python3) python3)
 BIN = $(DESTDIR)$(PREFIX)/bin
 INCLUDE = $(DESTDIR)$(PREFIX)/include
-LIB = $(DESTDIR)$(PREFIX)/lib
+# The folder of the library below PREFIX. Debian has one for each processor.
+LIBDIR = lib
+LIB = $(DESTDIR)$(PREFIX)/$(LIBDIR)
 MAN = $(DESTDIR)$(PREFIX)/share/man/man1
 CFLAGS = -O2
+OBJCOPY = objcopy
 
 include systems/systems.mk
 .DEFAULT_GOAL = run
@@ -86,10 +89,11 @@ $(OUT)/%.o: c/%.c c/psxgpu.h
 
 $(OUT)/libpsxgpu.a: $(ARCHIVE) $(OUT)/heap.o $(OUT)/text.o
 	cp $(ARCHIVE) $@
-	$(AR) r $@ $(OUT)/heap.o $(OUT)/text.o
+	$(AR) rD $@ $(OUT)/heap.o $(OUT)/text.o
+	$(OBJCOPY) -D $(foreach it,alloc realloc dealloc,--redefine-sym rattle_$(it)=rattle_of_psxgpu_$(it)) $@
 
 define link_shared
-	$(CC) $(CFLAGS) $(LDFLAGS) -shared -Wl,-soname,$(SONAME) -Wl,--version-script=c/psxgpu.map -Wl,-z,defs \
+	$(CC) $(CFLAGS) $(LDFLAGS) -shared -Wl,-soname,$(SONAME) -Wl,--version-script=c/psxgpu.map -Wl,-z,defs,-z,now \
 	  -Wl,--whole-archive $(1) -Wl,--no-whole-archive -o $@
 endef
 
@@ -104,7 +108,7 @@ $(NEWER)/libpsxgpu.a: $(OUT)/libpsxgpu.a
 	cd crates/psxgpu_c && cp -p out/libpsxgpu_c.a out/usual.a && \
 	  trap 'mv -f out/usual.a out/libpsxgpu_c.a' EXIT && trap 'exit 1' INT TERM && \
 	  rt lib --cpu=x86-64-v3 && cp out/libpsxgpu_c.a $(abspath $@.part)
-	$(AR) r $@.part $(OUT)/heap.o $(OUT)/text.o
+	$(AR) rD $@.part $(OUT)/heap.o $(OUT)/text.o
 	mv $@.part $@
 
 $(NEWER)/$(SONAME): $(NEWER)/libpsxgpu.a c/psxgpu.map
@@ -138,17 +142,18 @@ install: $(PLAYER) $(if $(wildcard $(OUT)/libpsxgpu.a),install-library)
 	packages/install "$(DESTDIR)" "$(PREFIX)" "$(PYTHON)"
 
 install-library:
-	install -d $(INCLUDE) $(LIB)/pkgconfig
+	install -d $(INCLUDE) $(LIB)
 	install -m 644 c/psxgpu.h recorder/psxgpu_capture.h $(INCLUDE)
 	install -m 644 $(OUT)/libpsxgpu.a $(LIB)/libpsxgpu.a
 	install -m 755 $(OUT)/$(SONAME) $(LIB)/$(SONAME)
 	ln -sf $(SONAME) $(LIB)/libpsxgpu.so
 	[ ! -f $(NEWER)/$(SONAME) ] || install -D -m 755 $(NEWER)/$(SONAME) $(LIB)/$(NEWER:$(OUT)/%=%)/$(SONAME)
-	sed -e 's|@PREFIX@|$(PREFIX)|' -e 's|@VERSION@|$(VERSION)|' c/psxgpu.pc.in > $(LIB)/pkgconfig/psxgpu.pc
+	python3 -m packages.for_compilers "$(DESTDIR)$(PREFIX)" "$(LIBDIR)"
 
 uninstall:
 	rm -f $(BIN)/psxgpu_tool $(INCLUDE)/psxgpu.h $(INCLUDE)/psxgpu_capture.h $(LIB)/libpsxgpu.a $(LIB)/$(SONAME) $(LIB)/libpsxgpu.so \
 	  $(LIB)/$(NEWER:$(OUT)/%=%)/$(SONAME) $(LIB)/pkgconfig/psxgpu.pc $(MAN)/psxgpu_tool.1
+	rm -rf $(LIB)/cmake/psxgpu
 	[ ! -d $(LIB)/$(NEWER:$(OUT)/%=%) ] || \
 	  (cd $(LIB) && rmdir -p --ignore-fail-on-non-empty $(NEWER:$(OUT)/%=%))
 	packages/install --remove "$(DESTDIR)" "$(PREFIX)" "$(PYTHON)"

@@ -1,6 +1,6 @@
 /* Draws a triangle, reads two of its pixels, and writes what is shown to example.ppm.
  *
- *     cc -std=c99 -I c c/example.c -L. -lpsxgpu -o example && ./example
+ *     cc -std=c99 -I c c/example.c -L out -Wl,-rpath,out -lpsxgpu -o example && ./example
  */
 #include <stdio.h>
 #include <stdlib.h>

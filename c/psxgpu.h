@@ -7,15 +7,17 @@
  * c/heap.c (memory) and c/text.c (psxgpu_version, psxgpu_text, psxgpu_line).
  *
  * Each function that returns a uint32_t returns 0 on success, else a code for the cause. On failure it changes neither
- * the machine nor the caller's buffers, except for output that its comment names. Every function that takes a psxgpu
- * also fails with CLOSED if the handle has no machine.
+ * the machine nor the caller's buffers, except for output that its comment names. So after NO_ROOM or NO_MEMORY the
+ * same call may be made again, with a larger buffer or more memory. Every function that takes a psxgpu also fails with
+ * CLOSED if the handle has no machine.
  *
  * What a caller owes, which nothing checks:
  *   - A psxgpu is PSXGPU_NONE before its first call. Only this library changes it. It may be moved: copy its bytes to
  *     another place and use the copy alone from then on. psxgpu_free must be called before it is dropped, as nothing
  *     else frees its memory.
  *   - A pointer is not null, unless it comes with a count of 0: then it may be null. A pointer with a count points to
- *     that number of values. They are readable, and also writable unless they are const.
+ *     that number of values. They are readable, and also writable unless they are const. Output may be uninitialized:
+ *     the library writes it and never reads it.
  *   - The arguments of one call do not overlap.
  *   - One call at a time works on a psxgpu, and none is made from a signal handler. This holds for calls that take a
  *     const psxgpu too: they leave the machine and the handle as they are, but write the handle while they run. Two
@@ -45,7 +47,11 @@ typedef struct psxgpu {
     uint32_t open;
 } psxgpu;
 
+#ifdef __cplusplus
+#define PSXGPU_NONE { nullptr, 0 }
+#else
 #define PSXGPU_NONE { 0, 0 }
+#endif
 
 /* The codes. */
 enum {

@@ -60,7 +60,8 @@ def sums(folder, names):
 def others(folder):
     """The packages for Linux on arm64, the zips and the wheels."""
     arm64 = os.path.join(ROOT, 'out/aarch64/psxgpu_tool')
-    said = run([sys.executable, os.path.abspath(__file__), 'built', folder], env=dict(os.environ, PLAYER=arm64))
+    said = run([sys.executable, '-m', 'packages.build', 'built', os.path.abspath(folder)], cwd=ROOT,
+               env=dict(os.environ, PLAYER=arm64))
     names = [os.path.basename(line) for line in said.decode().splitlines()]
     return names + [zipped(folder, system) for system in ZIPS] + [wheel(folder, system) for system in WHEELS]
 

@@ -81,12 +81,12 @@ def run(words, **more):
     return done.stdout
 
 
-def stage(folder, prefix):
-    """Installs into a folder, with modes that do not depend on who does it."""
+def stage(folder, prefix, libraries='lib'):
+    """Installs into a folder, with modes that do not depend on who does it. `libraries`: their folder there."""
     old = os.umask(0o022)
     try:
         run(['make', '-s', '-C', ROOT, 'install', 'DESTDIR=' + folder, 'PREFIX=' + prefix,
-             'ARCH=' + processor().machine, 'PLAYER=' + PROGRAM])
+             'ARCH=' + processor().machine, 'PLAYER=' + PROGRAM, 'LIBDIR=' + libraries])
     finally:
         os.umask(old)
 

@@ -60,9 +60,25 @@ def as_debian(place):
     run([strip(), '--strip-unneeded', os.path.join(place, 'usr/bin/psxgpu_tool')])
 
 
+def multiarch():
+    """Returns where Debian has the libraries of a processor, below /usr."""
+    return 'lib/%s-linux-gnu' % processor().machine
+
+
+def symbols(library):
+    """Returns what tells Debian from which version on the library has each call."""
+    major = version().split('.')[0]
+    said = run(['readelf', '--dyn-syms', '--wide', library]).decode()
+    names = sorted(re.findall(r'\d+: [0-9a-f]+ +\d+ +FUNC +GLOBAL +DEFAULT +\d+ (psxgpu_\w+@)@(\w+)$', said, re.M))
+    if not names:
+        raise ToolError('%s: no calls with versions' % library)
+    return 'libpsxgpu.so.%s libpsxgpu%s #MINVER#\n%s' % (
+        major, major, ''.join(' %s%s %s.0.0\n' % (*name, major) for name in names))
+
+
 def move_library(place, targets):
     """Takes the library out of the tree, if it was built. Returns the packages with something in them."""
-    lib = os.path.join(place, 'usr/lib')
+    lib = os.path.join(place, 'usr', multiarch())
     if not os.path.exists(os.path.join(lib, 'libpsxgpu.a')):
         return []
     major = version().split('.')[0]
@@ -75,13 +91,16 @@ def move_library(place, targets):
         run([strip(), '--strip-unneeded', newer])
         os.chmod(newer, 0o644)
     for_programs = {soname, NEWER.split('/')[0]} & {*os.listdir(lib)}
-    for names, target in ((for_programs, targets[0]), ({*os.listdir(lib)} - for_programs - {'python3'}, targets[1])):
-        os.makedirs(os.path.join(target, 'usr/lib'))
+    for names, target in ((for_programs, targets[0]), ({*os.listdir(lib)} - for_programs, targets[1])):
+        os.makedirs(os.path.join(target, 'usr', multiarch()))
         for it in sorted(names):
-            shutil.move(os.path.join(lib, it), os.path.join(target, 'usr/lib', it))
+            shutil.move(os.path.join(lib, it), os.path.join(target, 'usr', multiarch(), it))
+    os.rmdir(lib)
     shutil.move(os.path.join(place, 'usr/include'), os.path.join(targets[1], 'usr/include'))
     write(os.path.join(targets[0], 'DEBIAN'), 'shlibs', b'libpsxgpu %s libpsxgpu%s (>= %s)\n'
           % (major.encode(), major.encode(), version().encode()))
+    write(os.path.join(targets[0], 'DEBIAN'), 'symbols',
+          symbols(os.path.join(targets[0], 'usr', multiarch(), soname)).encode())
     write(os.path.join(targets[0], 'DEBIAN'), 'triggers', TRIGGERS.encode())
     return [LIBRARY % major, FOR_C]
 
@@ -127,7 +146,7 @@ def debs(folder):
         places = [os.path.join(top, name) for name in ('tool', 'library', 'dev')]
         for place in places:
             os.mkdir(place, 0o755)
-        stage(places[0], '/usr')
+        stage(places[0], '/usr', multiarch())
         as_debian(places[0])
         names = [NAME] + move_library(places[0], places[1:])
         return [pack(place, name, folder) for place, name in zip(places, names)]

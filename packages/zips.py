@@ -2,6 +2,7 @@
 
     psxgpu-tool-VERSION-NAME/       the program, the libraries
                             c/      the headers and an example
+                            lib/    what tells pkg-config and CMake where they are (macOS and Windows)
                             docs/   the documents; README.md and the licences are beside this folder
                             examples/, bench/, selftest/, viewer.html
 
@@ -14,6 +15,7 @@ import time
 import zipfile
 
 from packages.common import NAME, ROOT, ToolError, epoch, version
+from packages.for_compilers import texts
 
 # By the folder below out/: the name of the zip, what runs, and what is linked to.
 SYSTEMS = {
@@ -59,11 +61,16 @@ def zipped(folder, system):
     """Writes the zip of a system, and returns its name."""
     top = '%s-%s-%s' % (NAME, version(), SYSTEMS[system][0])
     os.makedirs(folder, exist_ok=True)
+    files = {}
+    for name, (path, is_program) in content(system).items():
+        with open(path, 'rb') as file:
+            files[name] = file.read(), is_program
+    if SYSTEMS[system][2]:
+        files.update({name: (text.encode(), False) for name, text in texts('lib', 'c', '.').items()})
     with zipfile.ZipFile(os.path.join(folder, top + '.zip'), 'w', zipfile.ZIP_DEFLATED) as made:
-        for name, (path, is_program) in sorted(content(system).items()):
+        for name, (data, is_program) in sorted(files.items()):
             entry = zipfile.ZipInfo('%s/%s' % (top, name), time.gmtime(epoch())[:6])
             entry.create_system = 3     # the modes are those of Unix
             entry.external_attr = (0o100755 if is_program else 0o100644) << 16
-            with open(path, 'rb') as file:
-                made.writestr(entry, file.read(), zipfile.ZIP_DEFLATED, 9)
+            made.writestr(entry, data, zipfile.ZIP_DEFLATED, 9)
     return top + '.zip'

@@ -81,8 +81,10 @@ class Slim(NamedTuple):
     is_flattened: bool
 
 
-def slimmed(program: str, path: str, name: str) -> Slim:
-    """Returns how many events `slim` leaves out."""
+def slimmed(program: str, path: str, name: str) -> Optional[Slim]:
+    """Returns how many events `slim` leaves out, if the player has that command: the library has not."""
+    if player.is_library(program):
+        return None
     with flattened(path, program) as flat:
         with reading(flat) as file:
             before = events_of(file, name)
@@ -100,7 +102,7 @@ class Contents(NamedTuple):
     good: int
     packets: Dict[str, int]
     unfinished: List[str]
-    slim: Slim
+    slim: Optional[Slim]
 
     @property
     def is_well(self) -> bool:
@@ -115,15 +117,17 @@ class Contents(NamedTuple):
             lines.append('what follows is of the %s before' % counted(self.good, 'event'))
         lines.append('packets: ' + (', '.join('%s %d' % pair for pair in self.packets.items()) or 'none'))
         lines += ['not finished: %s' % line for line in self.unfinished] or ['not finished: nothing']
-        return lines + ['slim leaves out: %d of %s%s' % (
-            self.slim.left_out, counted(self.slim.events, 'event'), ' of the flat capture' * self.slim.is_flattened)]
+        if self.slim:
+            lines.append('slim leaves out: %d of %s%s' % (
+                self.slim.left_out, counted(self.slim.events, 'event'), ' of the flat capture' * self.slim.is_flattened))
+        return lines
 
     def as_object(self) -> Dict[str, object]:
         """Returns the same for JSON."""
         return dict(version=self.records.version, events=self.records.events, frames=self.frames,
                     kinds={KINDS[kind]: count for kind, count in sorted(self.records.by_kind.items())},
                     refused=self.refused, good=self.good, packets=self.packets, unfinished=self.unfinished,
-                    slim=self.slim._asdict())
+                    slim=self.slim._asdict() if self.slim else None)
 
 
 def contents(path: str, name: str, program: str) -> Contents:

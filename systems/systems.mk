@@ -24,6 +24,7 @@ ifeq ($(ARCH),aarch64)
 CROSS = aarch64-linux-gnu-
 CC = $(CROSS)gcc
 AR = $(CROSS)ar
+OBJCOPY = $(CROSS)objcopy
 OUT = out/aarch64
 PLAYER = $(OUT)/psxgpu_tool
 PLAY = PROGRAM=$(PLAYER) systems/players/arm64

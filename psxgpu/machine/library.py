@@ -121,7 +121,8 @@ def library() -> Library:
             return Library(path)
         except OSError as bad:
             causes.append(str(bad))
-    raise Missing('no libpsxgpu: ' + '; '.join(causes))
+    raise Missing('no libpsxgpu: install the package libpsxgpu1 or a wheel of psxgpu, or build it with `make lib` (%s)'
+                  % '; '.join(causes))
 
 
 def line_of(ended: Ended) -> str:

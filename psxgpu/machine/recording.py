@@ -11,7 +11,9 @@ from psxgpu.machine.gpu import Machine
 from psxgpu.machine.library import NO_PICTURE, Refused
 from psxgpu.machine.playing import data_of, play
 from psxgpu.machine.values import Bytes, Path, Snapshot
-from psxgpu.records import (BEGIN, DMA, GP0, GP1, HEADS, KINDS, RAM, READ, SKIP, SNAPSHOT, STAT, TURN, count_of)
+from psxgpu.records import (BEGIN, DMA, END, GP0, GP1, HEADS, KINDS, RAM, READ, SKIP, SNAPSHOT, STAT, TURN, count_of,
+                            encode, first_events, later_events)
+from psxgpu.records import events as events_of
 from psxgpu.stream import Stream
 
 FLIP, MARK = 0x05, 0x3F         # opcodes of GP1 that end a frame
@@ -117,6 +119,21 @@ class Recording:
         recording is cut or bad, after the records before that."""
         for kind, count, words in self._stream():
             yield Record(kind, count, words)
+
+    def cut(self, events: int) -> bytes:
+        """Returns the snapshot that `psxgpu_tool cut` writes: the state after the first `events` events, and a record for
+        each of the others. Raises as `records` does, Refused if the machine refuses an event, and ValueError if there
+        are not so many."""
+        with self.machine() as machine:
+            count = 0
+            for record in first_events(self._stream(), events):
+                Record(*record).play(machine)
+                count += count_of(*record[:2])
+            if count < events:
+                raise ValueError('%s: cut at event %d, of %d' % (self.name, events, count))
+            state = machine.save()[:-END_BYTES]
+        rest = events_of((kind, count, list(words)) for kind, count, words in later_events(self._stream(), events))
+        return b''.join([state, *(encode(*record) for record in rest), encode(END, 0)])
 
     def packets(self) -> Iterator[Packet]:
         """Yields the packets, also those that DMA brings. Raises Refused if the machine refuses the recording, after

@@ -25,7 +25,7 @@ from psxgpu.errors import counted
 from psxgpu.vram import WIDTH
 from psxgpu.machine import MODES, play
 from psxgpu.machine.library import Missing, OutOfMemory, Refused, library
-from psxgpu.players import player as program
+from psxgpu.players import by_library, player as program
 from psxgpu.stopping import kill, session
 
 OWN = 'psxgpu_tool'
@@ -121,10 +121,12 @@ class LibraryPlayer(Player):
 
 def is_own(words: List[str]) -> bool:
     """Whether a command runs this project's own program: by its name alone, or by the path that `find` returns."""
-    if len(words) != 2 or os.path.basename(words[0]) != OWN or words[1] not in MODES:
+    if len(words) != 2 or words[1] not in MODES:
         return False
     if words[0] == OWN:
         return True
+    if os.path.basename(words[0]) not in (OWN, os.path.basename(by_library.__file__)):
+        return False
     try:
         return os.path.samefile(words[0], program.find())
     except (OSError, ToolError):

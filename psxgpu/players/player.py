@@ -4,16 +4,18 @@ import contextlib
 import os
 import shutil
 import subprocess
+import sys
 from typing import IO, Iterator, List, Optional, Union
 
 from psxgpu import progress
 from psxgpu.command import BLOCK, ToolError, decimal
 from psxgpu.output import Command
+from psxgpu.players import by_library
 from psxgpu.stopping import scratch, session
 
 TOP = os.path.dirname(os.path.dirname(os.path.dirname(os.path.abspath(__file__))))
 BUILT = os.path.join(TOP, 'crates', 'psxgpu_tool', 'out', 'psxgpu_tool')
-REFUSED = 2
+USAGE, REFUSED = 1, 2
 
 
 def argument(parser: argparse.ArgumentParser) -> None:
@@ -42,18 +44,30 @@ def is_named(given: Optional[str]) -> bool:
 
 
 def find(given: Optional[str] = None) -> str:
-    """Returns the path of the program: `given`, that of $PLAYER, of the path, or of the checkout. Raises ToolError if
-    the one that is named is not there, or if there is none."""
+    """Returns the path of the program: `given`, that of $PLAYER, of the path, or of the checkout, or else of what plays
+    by the library. Raises ToolError if the one that is named is not there, or if there is none."""
     if given:
         return program_of(given, '')
     named = os.environ.get('PLAYER')
     if named:
         return program_of(named, 'PLAYER=')
     path = shutil.which('psxgpu_tool') or shutil.which(BUILT)
+    if path is None and by_library.is_there():
+        path = by_library.__file__
     if path is None:
         hint = 'build it with `make run`' if os.path.isdir(os.path.dirname(os.path.dirname(BUILT))) else 'install it'
         raise ToolError('psxgpu_tool is not on the path: %s, or name it with --player' % hint)
     return path
+
+
+def is_library(player: str) -> bool:
+    """Returns whether what `find` returned plays by the library."""
+    return player == by_library.__file__
+
+
+def started(player: str) -> List[str]:
+    """Returns the words that start a program, given what `find` returned."""
+    return [sys.executable, player] if is_library(player) else [player]
 
 
 def failure(status: int, err: bytes) -> str:
@@ -89,18 +103,23 @@ class Run:
 
 @contextlib.contextmanager
 def playing(player: str, words: List[str], source: Union[str, IO[bytes]]) -> Iterator[Run]:
-    """A run that ends with the block. `source`: a path, or a file."""
+    """A run that ends with the block. `source`: a path, or a file. A ToolError of the block because a program that does
+    not know the command wrote nothing becomes what the program said."""
     with contextlib.ExitStack() as stack:
         file = stack.enter_context(open(source, 'rb')) if isinstance(source, str) else source
         stack.enter_context(progress.following(file, source if isinstance(source, str) else 'psxgpu_tool'))
         err = stack.enter_context(scratch())
         try:
-            child = stack.enter_context(session([player, *words], stdin=file, stdout=subprocess.PIPE, stderr=err))
+            child = stack.enter_context(session([*started(player), *words], stdin=file, stdout=subprocess.PIPE, stderr=err))
         except OSError as error:
             raise ToolError('%s: %s' % (player, error.strerror)) from error
         run = Run(child, err)
         try:
             yield run
+        except ToolError as why:
+            if not run.out.closed and not run.out.read(1) and run.child.wait() == USAGE:
+                raise ToolError(failure(USAGE, run.said())) from why
+            raise
         finally:
             run.out.close()
             if run.child.poll() is None:

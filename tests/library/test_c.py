@@ -86,16 +86,24 @@ class Library(unittest.TestCase):
         self.assertIn('.text', {name for name, *_ in rows})
         self.assertEqual({name for name in sections if not name.startswith('.data.rel.ro')}, set())
 
+    def names(self, *words):
+        """The names that nm prints, but for the version's own."""
+        said = subprocess.run(['nm', '--defined-only', *words], capture_output=True, text=True, check=True).stdout
+        return {line.split()[-1] for line in said.splitlines() if len(line.split()) == 3 and ' A ' not in line}
+
     def test_shared_library(self):
-        """It has its name, and shows the calls of the header alone."""
-        names = subprocess.run(['nm', '-D', '--defined-only', os.path.join(OUT, 'libpsxgpu.so.1')], capture_output=True,
-                               text=True, check=True).stdout
-        shown = {line.split()[-1] for line in names.splitlines()}
+        """It has its name, and shows the calls of the header alone, each with its version."""
+        shown = self.names('-D', os.path.join(OUT, 'libpsxgpu.so.1'))
         header = program.bytes_at(os.path.join(HEADER, 'psxgpu.h')).decode()
         calls = re.findall(r'(?m)^(?:void |uint32_t |size_t |const char \*)(psxgpu_\w+)\(', header)
-        self.assertEqual(shown, set(calls))
+        self.assertEqual(shown, {call + '@@PSXGPU_1' for call in calls})
         told = subprocess.run(['readelf', '-d', os.path.join(OUT, 'libpsxgpu.so.1')], capture_output=True, text=True)
         self.assertIn('[libpsxgpu.so.1]', told.stdout)
+
+    def test_archive(self):
+        """No name in it is one that another library of the same compiler has."""
+        self.assertEqual([name for name in self.names('-g', ARCHIVE)
+                          if not name.startswith(('psxgpu_', 'rattle_of_psxgpu_'))], [])
 
     @unittest.skipIf(RUN, 'of another system')
     def test_install(self):
