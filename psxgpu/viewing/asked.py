@@ -5,10 +5,9 @@ import argparse
 import io
 import os
 import tempfile
-from typing import NamedTuple, Optional, Tuple
+from typing import Optional, Tuple
 
 from psxgpu.command import BLOCK, ToolError, title
-from psxgpu.corpus.scan import past_head, records
 from psxgpu.dumps.format import NAME as DUMP
 from psxgpu.files import as_capture
 from psxgpu.output import Source, Text
@@ -16,11 +15,9 @@ from psxgpu.packing import ENDINGS, Peeked, unpacked
 from psxgpu.players import player
 from psxgpu.players.numbering import marks_or_flips
 from psxgpu.players.trimming import Range, events_of, frame_range, trim
-from psxgpu.stream import HEADS, SNAPSHOT
+from psxgpu.viewing.extent import Extent, extent_of
 from psxgpu.viewing.place import VIEWS, Place, address, cell, refuse_cell, zoom
 from psxgpu.viewing.template import Case, Recording
-
-TALL = 3                    # the version of captures with 1024 rows of video memory
 
 
 def arguments(parser: argparse.ArgumentParser) -> None:
@@ -39,27 +36,6 @@ def arguments(parser: argparse.ArgumentParser) -> None:
     parser.add_argument('--viewer', type=Source, metavar='FILE',
                         help='the viewer to use (default: that of the package or of the checkout)')
     player.argument(parser)
-
-
-class Extent(NamedTuple):
-    """The number of events before a recording, its last event, and the rows of its video memory."""
-    before: int
-    last: int
-    rows: int
-
-
-def rows_of(data: bytes) -> int:
-    """Returns the rows of video memory of a capture or snapshot."""
-    if data.startswith(SNAPSHOT):
-        return int.from_bytes(data[8:12], 'little')
-    return 1024 if data.startswith(HEADS[TALL]) else 512
-
-
-def extent_of(data: bytes) -> Extent:
-    """Returns the extent of a capture or snapshot. Raises ValueError if it is damaged."""
-    file = io.BytesIO(data)
-    before = past_head(file)
-    return Extent(before, before + sum(size for _, size, _ in records(file)), rows_of(data))
 
 
 def whole(file: Peeked) -> bytes:

@@ -87,9 +87,3 @@ def page(text: str, cases: Sequence[Case], maker: str = 'psxgpu page') -> bytes:
     data = json.dumps(inside, separators=(',', ':')).translate(ESCAPED)
     body = text[len(HEAD):].replace(INSIDE + END, INSIDE + data + END)
     return ('%s<!-- %s -->\n%s' % (HEAD.rstrip('\n'), maker, body)).encode()
-
-
-def page_if_built(cases: Sequence[Case], maker: str = 'psxgpu page') -> Optional[bytes]:
-    """Returns a page with cases inside, for a report that links it; None if the viewer is not built."""
-    path = found()
-    return page(text_of(path), cases, maker) if path and cases else None

@@ -2,7 +2,7 @@
 
 import { element } from '../panels/dom.js';
 import { placeHere } from '../panels/link.js';
-import { bytesOfText, gzipped, textOfBytes } from './packed.js';
+import { bytesOfText, gzipped, textOfBytes, unpacked } from './packed.js';
 import { CASES, pageWith } from './page_source.js';
 
 // Bytes of a packed recording: browsers take no longer texts.
@@ -25,9 +25,8 @@ export function openCase(page, name) {
 }
 
 async function openFiles({ receiver, compare }, { place, note, files: [first, second] }, from) {
-    const blobOf = ({ bytes }) => new Blob([bytesOfText(bytes)]);
-    await receiver.open(blobOf(first), first.name, { place, note, ...from });
-    if (second) await compare.open(blobOf(second), second.name);
+    await receiver.open(new Blob([bytesOfText(first.bytes)]), first.name, { place, note, ...from });
+    if (second) await compare.open(await unpacked(bytesOfText(second.bytes)), second.name);
 }
 
 /**

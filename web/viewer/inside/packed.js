@@ -26,6 +26,14 @@ export function textOfBytes(bytes) {
 }
 
 /**
+ * Returns bytes that are packed by gzip as a file without the packing.
+ * @param {Uint8Array} bytes
+ * @returns {Promise<Blob>}
+ */
+export const unpacked = bytes =>
+    new Response(new Blob([bytes]).stream().pipeThrough(new DecompressionStream('gzip'))).blob();
+
+/**
  * Returns the bytes of a file, packed by gzip. A file that is packed so stays as it is.
  * @param {Blob} file
  * @returns {Promise<Uint8Array>}
