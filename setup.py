@@ -1,6 +1,6 @@
 """Adds the library to the package, where it is built (`make lib`): then `psxgpu.machine` needs nothing else, and the
-wheel is one for this machine's kind. PSXGPU_WHEEL_LIBRARY names the library of another system (packages/wheels.py). The
-rest is in pyproject.toml."""
+wheel is one for this machine's kind. Adds the viewer, where it is built (`make web`). PSXGPU_WHEEL_LIBRARY names the
+library of another system (packages/wheels.py). The rest is in pyproject.toml."""
 import os
 import shutil
 
@@ -17,15 +17,18 @@ except ImportError:
         bdist_wheel = None
 
 LIBRARY = os.environ.get('PSXGPU_WHEEL_LIBRARY', 'out/libpsxgpu.so.1')
+VIEWER = 'web/viewer.html'
 
 
 class Build(build_py):
-    """Copies the library into the package."""
+    """Copies the library and the viewer into the package."""
 
     def run(self):
         super().run()
         if os.path.exists(LIBRARY):
             shutil.copy(LIBRARY, os.path.join(self.build_lib, 'psxgpu'))
+        if os.path.exists(VIEWER):
+            shutil.copy(VIEWER, os.path.join(self.build_lib, 'psxgpu', 'viewing'))
 
 
 class Package(Distribution):

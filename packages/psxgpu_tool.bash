@@ -16,10 +16,10 @@ complete -o filenames -F _psxgpu_tool psxgpu_tool
 _psxgpu() {
     local word=${COMP_WORDS[COMP_CWORD]}
     if [ "$COMP_CWORD" -eq 1 ]; then
-        mapfile -t COMPREPLY < <(compgen -W 'agree audit bisect check compare conform corpus diff film first from-dump from-log fuzz heat join mend packets picture reduce selftest textures to-dump to-exe trim' -- "$word")
+        mapfile -t COMPREPLY < <(compgen -W 'agree audit bisect check compare conform corpus diff film first from-dump from-log fuzz heat join mend packets page picture reduce selftest textures to-dump to-exe trim view' -- "$word")
     elif [ "$COMP_CWORD" -eq 2 ] && [ "${COMP_WORDS[1]}" = corpus ]; then
         mapfile -t COMPREPLY < <(compgen -W 'record check join split glue' -- "$word")
-    elif [[ ${COMP_WORDS[COMP_CWORD-1]} == @(--only|--ignore|--name|--blanks|--bits) ]]; then
+    elif [[ ${COMP_WORDS[COMP_CWORD-1]} == @(--only|--ignore|--name|--blanks|--bits|--view) ]]; then
         mapfile -t COMPREPLY < <(compgen -W "$(psxgpu help "${COMP_WORDS[1]}" "${COMP_WORDS[COMP_CWORD-1]}" 2> /dev/null)" -- "$word")
     elif [ "$COMP_CWORD" -eq 2 ] && [ "${COMP_WORDS[1]}" = help ]; then
         mapfile -t COMPREPLY < <(compgen -W "$(psxgpu help 2> /dev/null | sed -n 's/^  \([a-z-]*\) .*/\1/p')" -- "$word")

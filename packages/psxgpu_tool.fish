@@ -15,11 +15,11 @@ function __psxgpu_options
 end
 
 function __psxgpu_is_value
-    string match -q -r -- '^--(only|ignore|name|blanks|bits)$' (commandline -opc)[-1]
+    string match -q -r -- '^--(only|ignore|name|blanks|bits|view)$' (commandline -opc)[-1]
 end
 
 complete -c psxgpu -n __fish_use_subcommand -f -a 'agree audit bisect check compare conform corpus diff film first from-dump \
-    from-log fuzz heat help join mend packets picture reduce selftest textures to-dump to-exe trim'
+    from-log fuzz heat help join mend packets page picture reduce selftest textures to-dump to-exe trim view'
 complete -c psxgpu -n '__fish_seen_subcommand_from corpus; and test (count (commandline -opc)) -eq 2' -f \
     -a 'record check join split glue'
 complete -c psxgpu -n 'string match -q -- "-*" (commandline -ct)' -f -a '(__psxgpu_options)'

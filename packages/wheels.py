@@ -1,7 +1,7 @@
-"""Makes wheels: the Python package with the library of a system in it.
+"""Makes wheels: the Python package with the library of a system and the viewer in it.
 
-setuptools and wheel build them (Debian: python3-setuptools, python3-wheel), of a copy of the sources. The same sources and
-library give the same bytes.
+setuptools and wheel build them (Debian: python3-setuptools, python3-wheel), of a copy of the sources. The same sources,
+library and viewer give the same bytes.
 """
 import os
 import shutil
@@ -19,6 +19,7 @@ SYSTEMS = {
     'macos': ('libpsxgpu.1.dylib', 'macosx_11_0_universal2'),
     'windows': ('psxgpu.dll', 'win_amd64'),
 }
+VIEWER = 'web/viewer.html'      # packed where it is built
 OLDEST = (2, 17)        # the oldest glibc that a platform of manylinux has
 
 
@@ -40,11 +41,14 @@ def platform_of(system, library):
 
 
 def copied(folder, system):
-    """Copies the sources and the library of a system. Returns the library's path."""
+    """Copies the sources, the viewer and the library of a system. Returns the library's path."""
     for name in SOURCES:
         shutil.copy(os.path.join(ROOT, name), folder)
     shutil.copytree(os.path.join(ROOT, 'psxgpu'), os.path.join(folder, 'psxgpu'),
                     ignore=shutil.ignore_patterns('__pycache__'))
+    if os.path.exists(os.path.join(ROOT, VIEWER)):
+        os.mkdir(os.path.join(folder, os.path.dirname(VIEWER)))
+        shutil.copy(os.path.join(ROOT, VIEWER), os.path.join(folder, VIEWER))
     name = SYSTEMS[system][0]
     library = shutil.copy(os.path.join(ROOT, 'out', system, name), folder)
     if '.so' in name:

@@ -17,8 +17,8 @@ else:
     import _signal as signal        # the part of signal in C
 
 TOOLS = ('corpus', 'packets', 'check', 'first', 'trim', 'join', 'mend', 'from-log', 'from-dump', 'to-dump', 'to-exe',
-         'picture', 'film', 'textures', 'heat', 'diff', 'compare', 'bisect', 'agree', 'audit', 'reduce', 'fuzz',
-         'conform', 'selftest')
+         'view', 'page', 'picture', 'film', 'textures', 'heat', 'diff', 'compare', 'bisect', 'agree', 'audit', 'reduce',
+         'fuzz', 'conform', 'selftest')
 
 
 def module_of(name: str) -> ModuleType:

@@ -32,13 +32,16 @@ from psxgpu.command import DIFFERENT, SAME, TROUBLE, ToolError, decimal
 from psxgpu.conformance import expected, folder, judging, reducing, report
 from psxgpu.conformance.chapters import CHAPTERS
 from psxgpu.conformance.judging import Judge, Verdict
-from psxgpu.conformance.page import page
+from psxgpu.conformance.page import MAKER, page, viewer_page
 from psxgpu.conformance.released import SUITE, WITHDRAWN
 from psxgpu.conformance.suite import Test
-from psxgpu.output import Command, Content, Source, Target, Text, tree, write_several
+from psxgpu.output import Command, Content, Source, Target, Text, stem, stream_of, tree, write_several
 from psxgpu.players import player
 from psxgpu.players.named import Player, player_of
 from psxgpu.players.trial_run import try_player
+from psxgpu.viewing.template import found
+
+ENDING = '-viewer.html'
 
 
 def arguments(parser: argparse.ArgumentParser) -> None:
@@ -48,7 +51,8 @@ def arguments(parser: argparse.ArgumentParser) -> None:
     parser.add_argument('--only', action='append', type=Text, default=[], metavar='NAME',
                         help='a chapter, or CHAPTER/TEST')
     parser.add_argument('--page', type=Target, metavar='FILE',
-                        help='write a page with pictures: theirs, ours, the difference')
+                        help='write a page with pictures: theirs, ours, the difference; with the viewer, also '
+                             'FILE-viewer.html, which shows each failure step by step')
     parser.add_argument('--junit', type=Target, metavar='FILE', help='write JUnit XML')
     parser.add_argument('--json', type=Target, metavar='FILE', help='write the verdicts')
     parser.add_argument('--expect', type=Source, metavar='FILE', help='known failures: only another one fails the run')
@@ -68,6 +72,13 @@ def arguments(parser: argparse.ArgumentParser) -> None:
     parser.add_argument('--strict', action='store_true', help='status 1 also if a rule of this project decides')
     parser.add_argument('--version', action='store_true', help='print the version of the suite')
     player.argument(parser)
+
+
+def complete(words: argparse.Namespace) -> None:
+    """Names the page of the viewer that --page links: it is beside that page."""
+    words.beside = None
+    if words.page and stream_of(words.page) is None and found():
+        words.beside = stem((ENDING,), (ENDING, '<!doctype html><!-- %s -->' % MAKER))(os.path.splitext(words.page)[0])
 
 
 def every_test() -> List[Test]:
@@ -134,9 +145,12 @@ def show(verdicts: List[Verdict], words: argparse.Namespace, known: expected.Kno
 def write_files(verdicts: List[Verdict], words: argparse.Namespace, seconds: float) -> None:
     """Writes the files that are asked for."""
     title = os.path.basename(words.tested)
-    write_several(Content(path, text.encode(errors='replace'), is_text=True) for path, text in (
-        (words.page, page(verdicts, title)), (words.junit, report.junit(verdicts, seconds)),
-        (words.json, report.as_json(verdicts)), (words.keep_expected, expected.kept(verdicts))) if path)
+    cases = viewer_page(verdicts) if words.beside else None
+    path_of_cases = words.beside.paths()[0] if cases else ''
+    texts = ((words.page, page(verdicts, title, os.path.basename(path_of_cases))), (words.json, report.as_json(verdicts)),
+             (words.junit, report.junit(verdicts, seconds)), (words.keep_expected, expected.kept(verdicts)))
+    files = [Content(path, text.encode(errors='replace'), is_text=True) for path, text in texts if path]
+    write_several([*files, Content(path_of_cases, cases, is_text=True)] if cases else files)
 
 
 def test_player(words: argparse.Namespace, tests: List[Test]) -> int:

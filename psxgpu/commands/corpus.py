@@ -32,6 +32,7 @@ from psxgpu.corpus.captures import NAMES, REPORT, Capture, captures_of
 from psxgpu.corpus.findings import Finding, compare_sums
 from psxgpu.corpus.glue import glue
 from psxgpu.corpus.journal import play_into
+from psxgpu.corpus.linked import link_page
 from psxgpu.corpus.parts import split
 from psxgpu.corpus.places import Places
 from psxgpu.corpus.play import Player
@@ -135,7 +136,8 @@ def check(words: argparse.Namespace) -> int:
 
 def look_at(findings: List[Finding], paths: Dict[str, str], player: Player, words: argparse.Namespace,
             out: Folder) -> None:
-    """Adds to the findings that differ what can be found of them: the first packet, a picture, the smallest capture."""
+    """Adds to the findings that differ what can be found of them: the first packet, pictures, a page of the viewer, the
+    smallest capture."""
     reference = Player(words.reference, words.limit) if words.reference else None
     if reference:
         reference.ask_first()
@@ -143,6 +145,7 @@ def look_at(findings: List[Finding], paths: Dict[str, str], player: Player, word
     for finding in [it for it in findings if it.kind == 'different' and it.name in paths][:words.pictures]:
         with plain(paths[finding.name], finding.name) as path:
             places.look(finding, path)
+            link_page(finding, path, out)
             if words.reduce and reference:
                 reduce_finding(finding, path, player, reference, out)
 

@@ -9,7 +9,7 @@ Everything before it is replaced by a state: loads of video memory, and settings
 removed: loads, settings, words, bits, texels, size.
 
 The tool writes NAME.capture, NAME.log (for from-log), NAME.py (a script that makes it) and NAME.png (ours, theirs, the
-difference).
+difference). If the viewer is built, NAME.html shows the capture in a browser, compared with what THEIRS drew.
 
 With --words it compares the words of reads and statuses: `play` replaces `vram` in both commands. With --crash it
 searches the smallest capture for which THEIRS gives no dump. With --ignore, differences of known classes are no fault,
@@ -43,8 +43,9 @@ from psxgpu.reduce.faults import BreaksDown, DumpsDiffer, Fault, WordsDiffer
 from psxgpu.reduce.features import FEATURES
 from psxgpu.reduce.job import Job, Wanted
 from psxgpu.reduce.report import files_of, report_lines
+from psxgpu.viewing.linked import page_of_reduced
 
-ENDINGS = ('.capture', '.log', '.py', '.png', '.exe')
+ENDINGS = ('.capture', '.log', '.py', '.png', '.exe', '.html')
 PROOF = '.log', r'# .*, event \d+ of the flat capture: '     # the first line of NAME.log
 
 
@@ -108,7 +109,8 @@ def search(words: argparse.Namespace, path: str, name: str) -> int:
         decided = of_units(found.units) if found.dumps else None
         if decided:
             print(DECIDED % (decided,))
-        write_several(files_of(found, words.output, ['ours: ' + words.ours, 'theirs: ' + words.theirs]))
+        notes = ['ours: ' + words.ours, 'theirs: ' + words.theirs]
+        write_several([*files_of(found, words.output, notes), *page_of_reduced(found, words.output, notes)])
         if words.exe:
             write_program(words.output + '.capture', words.output + '.exe')
         if sys.stderr.isatty():

@@ -3,7 +3,8 @@ from __future__ import annotations
 
 import base64
 from html import escape
-from typing import Callable, Iterable, List, Sequence
+from typing import Callable, Iterable, List, Optional, Sequence
+from urllib.parse import quote
 
 from psxgpu import __version__
 from psxgpu.conformance.judging import DIFFERS, FAILED, PASSED, TROUBLE, Verdict, cell_of
@@ -12,8 +13,11 @@ from psxgpu.conformance.report import counts
 from psxgpu.conformance.subject import subject_lines
 from psxgpu.conformance.suite import WIDTH, Box, Picture, Place, Test
 from psxgpu.image import Image, png
+from psxgpu.viewing.linked import Shown, case_of, page_of
+from psxgpu.viewing.template import Case
 from psxgpu.vram import wide
 
+MAKER = 'psxgpu conform'
 MOST_SHOWN = 48             # cells of a picture, each way
 SCALE, MOST_PIXELS = 8, 320
 SAME, OTHER = b'\x20\x20\x20', b'\xff\x40\x40'
@@ -103,13 +107,33 @@ def capture(test: Test) -> str:
         escape(name), base64.b64encode(test.data).decode(), escape(name))
 
 
-def section(verdict: Verdict) -> str:
+def case_of_verdict(verdict: Verdict) -> Case:
+    """Returns a test that did not pass as a case of the viewer, with what the player drew."""
+    test = verdict.test
+    shown = Shown(verdict.dump, verdict.places[0]) if verdict.dump is not None else Shown()
+    return case_of(test.full_name, test.data, shown, '%s: %s\n%s' % (test.full_name, test.says, verdict.reason))
+
+
+def viewer_page(verdicts: Iterable[Verdict]) -> Optional[bytes]:
+    """Returns a page of the viewer that has each test inside that did not pass; None if there is none, or if the viewer
+    is not built."""
+    return page_of([case_of_verdict(verdict) for verdict in not_passed(verdicts)], MAKER)
+
+
+def viewer_link(verdict: Verdict, viewer: str) -> str:
+    """Returns a link to a test in the page of the viewer; empty without such a page."""
+    name = quote(verdict.test.full_name, safe='')
+    return '<a href="%s#example=%s">Open it in the viewer</a>' % (quote(viewer), name) if viewer else ''
+
+
+def section(verdict: Verdict, viewer: str) -> str:
     """Returns what the page has of a test."""
     test = verdict.test
     packets = ''.join('<li><code>%s</code></li>' % escape(line) for line in subject_lines(test))
     paragraphs = [escape(test.says), 'psx-spx: %s. Decided by: %s. Expected values: by %s.' % (
         escape(test.section), test.decides, test.worked), escape(verdict.reason)]
-    text = ''.join('<p>%s</p>' % one for one in [*paragraphs, 'The test as a file: ' + capture(test)])
+    links = filter(None, ['The test as a file: ' + capture(test), viewer_link(verdict, viewer)])
+    text = ''.join('<p>%s</p>' % one for one in [*paragraphs, *links])
     return '<section id="%s"><h3><span class="%s">%s</span> %s</h3>%s%s%s%s</section>' % (
         escape(test.full_name), verdict.kind, verdict.kind, escape(test.full_name), text, cells(verdict),
         pictures(verdict), '<ul>%s</ul>' % packets)
@@ -120,12 +144,13 @@ def not_passed(verdicts: Iterable[Verdict]) -> List[Verdict]:
     return sorted((one for one in verdicts if one.kind in ORDER), key=lambda one: ORDER.index(one.kind))
 
 
-def page(verdicts: Sequence[Verdict], player: str) -> str:
-    """Returns the page. `player`: its command."""
+def page(verdicts: Sequence[Verdict], player: str, viewer: str = '') -> str:
+    """Returns the page. `player`: its command; `viewer`: the file of `viewer_page`, if there is one."""
     head, *rows = counts(verdicts)
     body = ''.join('<tr>%s</tr>' % ''.join('<td>%s</td>' % escape(one) for one in row) for row in rows)
     title = 'Conformance: ' + escape(player)
     shown = not_passed(verdicts)
     passed = '' if shown or not any(one.kind == PASSED for one in verdicts) else '<p>No test failed or differs.</p>'
     columns = ''.join('<th>%s</th>' % escape(one) for one in head)
-    return PAGE % (title, STYLE, title, SUITE, __version__, ABOUT, columns, body, passed, '\n'.join(map(section, shown)))
+    return PAGE % (title, STYLE, title, SUITE, __version__, ABOUT, columns, body, passed,
+                   '\n'.join(section(verdict, viewer) for verdict in shown))

@@ -15,11 +15,12 @@ from psxgpu.players.named import Player, player_of
 from psxgpu.reduce.faults import DumpsDiffer, Fault, WordsDiffer
 from psxgpu.reduce.job import Job, Wanted
 from psxgpu.reduce.report import files_of
+from psxgpu.viewing.linked import page_of_reduced
 
 
 def reduce_one(verdict: Verdict, ours: Player, theirs: Player, out: Folder, program: str) -> Optional[str]:
-    """Reduces one failure, and writes CHAPTER-NAME.capture, .log, .py and .png. Returns a line; None if psxgpu_tool and
-    the player do not differ."""
+    """Reduces one failure, and writes CHAPTER-NAME.capture, .log, .py, .png and .html. Returns a line; None if
+    psxgpu_tool and the player do not differ."""
     name = verdict.test.full_name.replace('/', '-')
     fault: Fault = DumpsDiffer() if verdict.dump is not None else WordsDiffer()
     with tempfile.NamedTemporaryFile(prefix='psxgpu') as file:
@@ -30,7 +31,8 @@ def reduce_one(verdict: Verdict, ours: Player, theirs: Player, out: Folder, prog
     if found is None:
         return None
     notes = ['test: ' + verdict.test.full_name, verdict.test.says]
-    paths = [out.put(file.path, file.data) for file in files_of(found, name, notes)]
+    files = [*files_of(found, name, notes), *page_of_reduced(found, name, notes)]
+    paths = [out.put(file.path, file.data) for file in files]
     return '%s: %s, %s' % (verdict.test.full_name, counted(found.words, 'word'), paths[0])
 
 

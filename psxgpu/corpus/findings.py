@@ -17,8 +17,9 @@ class Shown(NamedTuple):
 
 @dataclass
 class Finding:
-    """The result for one capture. `low` and `high`: it is the same after event `low`, and not after `high`. `links`: the
-    files of the report beside its page, that it leads to."""
+    """The result for one capture. `low` and `high`: it is the same after event `low`, and not after `high`. `event`: the
+    first after which a dump differs, `dump` and `cell`: the player's dump there, and the first cell that differs. `links`:
+    the files of the report beside its page, that it leads to; `page`: the one of the viewer."""
     name: str
     kind: str = 'same'
     lines: List[str] = field(default_factory=list)
@@ -28,6 +29,10 @@ class Finding:
     seconds: float = 0.0
     pictures: List[Shown] = field(default_factory=list)
     links: List[str] = field(default_factory=list)
+    event: Optional[int] = None
+    dump: bytes = b''
+    cell: Optional[Tuple[int, int]] = None
+    page: str = ''
 
 
 def as_asked(frame: Frame, gives: Sequence[str]) -> Tuple[int, int, int, str, str]:

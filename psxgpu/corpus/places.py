@@ -70,11 +70,15 @@ class Places:
             return
         difference = compared(ours, theirs)
         finding.pictures = pictures(difference)
-        low = finding.low
+        low, found = finding.low, (ours, theirs)
         while high - low > 1:
             middle = (low + high) // 2
-            ours, theirs = self.dumps(path, middle, reference)
-            low, high = (middle, high) if ours == theirs else (low, middle)
+            dumps = self.dumps(path, middle, reference)
+            if dumps[0] == dumps[1]:
+                low = middle
+            else:
+                high, found = middle, dumps
+        finding.event, finding.dump, finding.cell = high, found[0], compared(*found).places[0]
         finding.lines.append('first packet: ' + self.packet(path, high, reference))
         finding.lines += difference.lines(NAMES)
 

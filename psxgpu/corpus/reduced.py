@@ -15,6 +15,7 @@ from psxgpu.players.flat import flattened
 from psxgpu.reduce.faults import DumpsDiffer, Fault, WordsDiffer
 from psxgpu.reduce.job import Job, Wanted
 from psxgpu.reduce.report import files_of, report_lines
+from psxgpu.viewing.linked import page_of_reduced
 
 
 def reduce_finding(finding: Finding, path: str, player: Player, reference: Player, out: Folder) -> None:
@@ -33,7 +34,8 @@ def reduce_finding(finding: Finding, path: str, player: Player, reference: Playe
                     with Job(reference.command, player.command, Wanted(fault, []), reference.limit) as job:
                         found = job.result(flat, finding.name)
                     if found:
-                        paths = [out.put(file.path, file.data) for file in files_of(found, name, notes)]
+                        files = [*files_of(found, name, notes), *page_of_reduced(found, name + '-reduced', notes)]
+                        paths = [out.put(file.path, file.data) for file in files]
                         finding.links = [os.path.relpath(path, out.path) for path in paths]
                         finding.lines.append('reduced: %s, %s: %s' % (
                             counted(len(found.units), 'packet'), counted(found.words, 'word'), paths[0]))

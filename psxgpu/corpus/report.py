@@ -88,7 +88,8 @@ def figure(shown: Shown) -> str:
 def links(finding: Finding) -> str:
     """Returns the files that a finding leads to, as HTML."""
     made = ['<a href="%s">%s</a>' % (quote(path), html.escape(path)) for path in finding.links]
-    return '<p>The reduced capture: %s</p>\n' % ', '.join(made) if made else ''
+    page = '<p><a href="%s">Open it in the viewer</a></p>\n' % quote(finding.page) if finding.page else ''
+    return ('<p>The reduced capture: %s</p>\n' % ', '.join(made) if made else '') + page
 
 
 def section(finding: Finding) -> str:

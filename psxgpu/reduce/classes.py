@@ -16,6 +16,7 @@ from psxgpu.players.named import Player
 from psxgpu.reduce.faults import DumpsDiffer
 from psxgpu.reduce.job import Job, Wanted
 from psxgpu.reduce.report import files_of, report_lines
+from psxgpu.viewing.linked import page_of_reduced
 
 PAGE = '''<!doctype html>
 <html lang="en"><meta charset="utf-8"><title>%(name)s, by classes</title><style>
@@ -56,7 +57,8 @@ def reduced_entry(kind: str, row: Row, flat: str, name: str, players: Tuple[Play
     if found is None:
         return Entry(kind, row, ['not shown by dumps'], [])
     notes = ['ours: ' + players[0].text, 'theirs: ' + players[1].text]
-    return Entry(kind, row, report_lines(found), list(files_of(found, kind.replace(' ', '-'), notes)))
+    stem = kind.replace(' ', '-')
+    return Entry(kind, row, report_lines(found), [*files_of(found, stem, notes), *page_of_reduced(found, stem, notes)])
 
 
 def picture(files: List[Content]) -> str:

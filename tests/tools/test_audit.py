@@ -11,6 +11,7 @@ from psxgpu.__main__ import main
 from psxgpu.players import audit
 from psxgpu import capture as c
 from psxgpu.players import probes
+from psxgpu.viewing.template import found
 
 # A player of fills, loads and stores. So many rows of a fill it forgets, and so much it adds to the colour.
 PLAYER = '''#!%s
@@ -116,8 +117,9 @@ class Audits(unittest.TestCase):
         folder = os.path.join(self.folder, 'small')
         status, lines = self.audit(self.fills(), self.shorter, '--reduce', folder)
         self.assertEqual((status, lines[-1]), (1, '1 class reduced: %s' % os.path.join(folder, 'index.html')))
-        self.assertEqual(sorted(os.listdir(folder)), ['.psxgpu-output', 'fill.capture', 'fill.log', 'fill.png', 'fill.py',
-                                                       'index.html'])
+        pages = ['fill.html'] if found() else []
+        self.assertEqual(sorted(os.listdir(folder)), sorted(['.psxgpu-output', 'fill.capture', 'fill.log', 'fill.png',
+                                                             'fill.py', 'index.html', *pages]))
         with open(os.path.join(folder, 'fill.capture'), 'rb') as file:
             (kind, _, words), = c.records(file.read())[1]
         self.assertEqual((kind, words[1:]), (c.GP0, [0, 0x00010001]))

@@ -13,6 +13,7 @@ from psxgpu.command import ToolError, parser_of, status_of
 from psxgpu.output import Grown, Role, Stem, Target, Text, Tree
 from tests import support
 from tests.tools.dumps_support import HAND_MADE
+from tests.tools.test_page import SMALL
 
 ONLY = ['--only', 'fills']
 CORPUS = ['--player', './other', '--jobs', '1', '--gives', 'vram']
@@ -29,6 +30,8 @@ RUNS = {
     'corpus join': ['join', 'in.sums', '--golden', 'new.sums'],
     'corpus split': ['split', 'in.capture', '--parts', '2', '--into', 'new', '--player', support.PLAYER],
     'corpus glue': ['glue', 'play', 'in.play', 'in.play'],
+    'page': ['in.capture', '-o', 'new.html', '--viewer', 'viewer.html'],
+    'view': ['in.capture', '--print', '--viewer', 'viewer.html'],
     'trim': ['in.capture', '--frames', '1-1'], 'diff': ['in.capture', 'in2.capture'],
     'packets': ['in.capture'], 'check': ['in.capture'], 'bisect': ['in.capture', './ours', './other'],
     'agree': ['./ours', './other', '1', 'fills'], 'selftest': [],
@@ -78,7 +81,7 @@ class EveryOutput(support.InFolder):
                            ('in2.bin', bytes([1]) + bytes(4095)), ('in.play', b'00000000\nstatus 14802000\n'),
                            ('ours', b'#!/bin/sh\nexec %s "$@"\n' % support.PLAYER.encode()),
                            ('other', b'#!/bin/sh\ntr "\\140" "\\142" | %s "$@"\n' % support.PLAYER.encode()),
-                           ('stem.py', b'mine'), ('out.log', b'mine'), *(('user/' + name, b'mine') for name in USER)):
+                           ('stem.py', b'mine'), ('out.log', b'mine'), ('viewer.html', SMALL.encode()), *(('user/' + name, b'mine') for name in USER)):
             self.write(name, text)
         os.chmod('ours', 0o755)
         os.chmod('other', 0o755)

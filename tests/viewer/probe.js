@@ -13,6 +13,14 @@ const probe = (() => {
         while (!app.pass.isDone() || app.pass.isRunning || app.goal >= 0) await later();
     }
 
+    // Waits until what the page has inside is open and played, and what it is compared with; or until the page says why not.
+    async function opened() {
+        const { app } = viewer;
+        while (!app.recording && !app.said?.text) await later();
+        if (app.recording) await played();
+        while (app.beside?.told) await later();
+    }
+
     const base64Of = async parts => {
         const bytes = new Uint8Array(await new Blob(parts).arrayBuffer());
         let text = '';
@@ -24,7 +32,7 @@ const probe = (() => {
         begin: async () => { viewer = await window.viewer; },
         get app() { return viewer.app; },
         get viewer() { return viewer; },
-        sum, played,
+        sum, played, opened,
 
         // Opens bytes as a file is opened, and waits until all is played. True, or the line that says why not.
         async open(name, text) {

@@ -5,10 +5,13 @@ import base64
 import hashlib
 import json
 import os
+import tempfile
+import time
 import unittest
 
 from tests import support
-from tests.viewer.page import HERE, PAGE, examples, program
+from tests.viewer.page import EXAMPLES, HERE, PAGE, examples, program
+from tests.viewer.pages import SEEN, loosened, made, show
 from tests.viewer.recordings import two_buffers
 
 from tests.web.firefox import Firefox, firefox
@@ -26,7 +29,8 @@ class InFirefox(unittest.TestCase):
     @classmethod
     def setUpClass(cls):
         cls.page = cls.enterClassContext(Firefox())
-        cls.page.open(PAGE)
+        cls.folder = cls.enterClassContext(tempfile.TemporaryDirectory())
+        cls.page.open(loosened(PAGE, cls.folder))
         with open(os.path.join(HERE, 'probe.js'), encoding='utf-8') as file:
             cls.page.define(file.read())
         cls.page.evaluate('probe.begin()')
@@ -70,3 +74,46 @@ class InFirefox(unittest.TestCase):
 
     def test_no_fault_was_told(self):
         self.assertNotIn('A fault', self.page.evaluate('document.getElementById("said").textContent'))
+
+
+@unittest.skipUnless(firefox(), 'Firefox is not installed (Debian: firefox-esr)')
+class PagesInFirefox(unittest.TestCase):
+    """Pages with a recording inside."""
+
+    @classmethod
+    def setUpClass(cls):
+        cls.page = cls.enterClassContext(Firefox())
+        cls.folder = cls.enterClassContext(tempfile.TemporaryDirectory())
+
+    def test_under_its_own_policy(self):
+        """It opens without a script of the test: what the page says is read from outside."""
+        flips = os.path.join(EXAMPLES, 'flips.capture')
+        self.page.open(made(self.folder, flips, '--at', '20', '--note', 'a </script> note'))
+        script = ('return ["event", "note", "said"].map(id => document.getElementById(id))'
+                  '.map(it => it.value ?? it.textContent)')
+        for _ in range(500):
+            seen = self.page.call('WebDriver:ExecuteScript', script=script, args=[])['value']
+            if seen[0] == '20':
+                break
+            time.sleep(0.02)
+        self.assertEqual(seen, ['20', 'a </script> note', ''])
+
+    def test_places(self):
+        data = two_buffers()
+        path = os.path.join(self.folder, 'a.capture')
+        with open(path, 'wb') as file:
+            file.write(data)
+        page = made(self.folder, path, '--at', '9', '--view', 'memory', '--cell', '90,40')
+        show(self.page, loosened(page, self.folder))
+        self.assertEqual(self.page.evaluate(SEEN), ['a.capture', '9', 'memory', [90, 40], '', ''])
+        self.assertEqual(self.page.evaluate('probe.pixel(90, 40)'), program('pixel', '90', '40', data=data)[0].decode())
+
+    def test_saved_by_the_viewer(self):
+        """The text that is saved is a page with the same recording."""
+        show(self.page, loosened(made(self.folder, os.path.join(EXAMPLES, 'flips.capture'), '--at', '20'), self.folder))
+        text = self.page.evaluate('module_cases.pageOfThis(probe.app, probe.viewer.views)')
+        path = os.path.join(self.folder, 'saved.html')
+        with open(path, 'w', encoding='utf-8') as file:
+            file.write(text)
+        show(self.page, path)
+        self.assertEqual(self.page.evaluate(SEEN)[:2], ['flips.capture', '20'])

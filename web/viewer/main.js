@@ -7,6 +7,8 @@ import { addressOf } from './playing/address.js';
 import { Keys } from './panels/keys.js';
 import { FrameTable } from './costs/frame_table.js';
 import { wireFolds, wireTheme } from './kept.js';
+import { caseNames, openCase, wireNote } from './inside/cases.js';
+import { bytesOfText } from './inside/packed.js';
 import { Follower } from './panels/link.js';
 import { MemoryPanel } from './costs/memory_panel.js';
 import { makeMenu } from './panels/menu.js';
@@ -22,17 +24,18 @@ import { wireSplits } from './panels/resizing.js';
 import { Timeline } from './panels/timeline.js';
 import { Views } from './views/views.js';
 
-const bytesOfText = text => Uint8Array.from(atob(text), letter => letter.charCodeAt(0));
-
-// Opens files: those that are chosen or dropped, and the examples. Returns how an example is opened by its name.
-function wireFiles(app, receiver) {
+// Opens files: those that are chosen or dropped, the cases inside the page, and the examples. Returns how a case or an
+// example is opened by its name.
+function wireFiles({ receiver, compare }) {
     const examples = JSON.parse(element('example-files').textContent);
     const openExample = name => {
+        if (openCase({ receiver, compare }, name)) return true;
         if (!Object.hasOwn(examples, name)) return false;
         receiver.open(new Blob([bytesOfText(examples[name])]), `${name}.capture`, { example: name });
         return true;
     };
-    makeMenu(element('examples'), Object.keys(examples).map(name => ({ text: name, does: () => openExample(name) })));
+    const names = [...caseNames, ...Object.keys(examples)];
+    makeMenu(element('examples'), names.map(name => ({ text: name, does: () => openExample(name) })));
     element('open').addEventListener('change', ({ target }) => {
         const [file] = target.files;
         if (file) receiver.open(file, file.name);
@@ -113,8 +116,10 @@ export async function main() {
     wireTheme(() => timeline.marks.repaint());
     wireFolds();
     wireSplits();
-    const receiver = new Receiver(app, compare);
-    out.follower = new Follower(app, views, wireFiles(app, receiver));
+    wireNote(app);
+    const receiver = new Receiver(app, compare), openExample = wireFiles({ receiver, compare });
+    out.follower = new Follower(app, views, openExample);
+    if (caseNames.length && !out.follower.namesExample) openExample(caseNames[0]);
     app.warmUp();
     return { app, list, views, pixel, timeline, out, compare, receiver, table, memory };
 }

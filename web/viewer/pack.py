@@ -7,6 +7,7 @@ the machine (web/out/psxgpu.js, which `make web` makes) and the examples.
 web/bundle.py joins the modules, and has what they may not do.
 """
 import base64
+import hashlib
 import json
 import os
 import sys
@@ -18,6 +19,7 @@ WEB = os.path.dirname(HERE)
 EXAMPLES = os.path.join(os.path.dirname(WEB), 'examples')
 MACHINE = os.path.join(WEB, 'out', 'psxgpu.js')
 FIRST = 'main'
+INSIDE = '<script type="application/json" id="inside"></script>'      # psxgpu.viewing.page fills it
 
 
 def text_of(path: str) -> str:
@@ -36,13 +38,20 @@ def example_files() -> str:
     return json.dumps(out)
 
 
+def hash_of(script: str) -> str:
+    """Returns a script as a content policy names it: the page runs no other."""
+    return "'sha256-%s'" % base64.b64encode(hashlib.sha256(script.encode()).digest()).decode()
+
+
 def page() -> str:
     """Returns the page."""
-    scripts = '\n'.join(['<script type="application/json" id="example-files">%s</script>' % example_files(),
-                         '<script>\n%s</script>' % text_of(MACHINE), '<script>\n%s</script>' % bundle.script_of(HERE, FIRST)])
+    scripts = ['\n' + text_of(MACHINE), '\n' + bundle.script_of(HERE, FIRST)]
+    parts = ['<script type="application/json" id="example-files">%s</script>' % example_files(), INSIDE,
+             *('<script>%s</script>' % script for script in scripts)]
     text = text_of(os.path.join(HERE, 'index.html'))
     return (text.replace('/* STYLE */', '\n' + text_of(os.path.join(HERE, 'style.css')))
-            .replace('<!-- SCRIPTS -->', scripts))
+            .replace('SCRIPT_HASHES', ' '.join(map(hash_of, scripts)))
+            .replace('<!-- SCRIPTS -->', '\n'.join(parts)))
 
 
 def main() -> None:

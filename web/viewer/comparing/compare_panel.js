@@ -68,7 +68,7 @@ export class ComparePanel {
     // A recording; null for what is none.
     async recordingOf(file, name) {
         try {
-            return await openFile(file, name, this.app.library);
+            return Object.assign(await openFile(file, name, this.app.library), { source: file });
         } catch (fault) {
             if (fault instanceof Refusal && fault.cause === 'not-capture') return null;
             throw fault;

@@ -6,15 +6,14 @@ import { VIEWS } from '../views/view_images.js';
 const NUMBERS = /^-?\d+(\.\d+)?(,-?\d+(\.\d+)?)*$/;
 
 /**
- * Returns the part of a link after its `#`: example, place, view, zoom, cell and texture.
+ * Returns what is seen, as a link has it: place, view, zoom, cell and texture.
  * @param {App} app
  * @param {Views} views
  * @returns {string}
  */
-export function linkTo(app, views) {
-    const { cell, recording, at } = app, { view, name, choice } = views, parts = [];
-    if (recording.example) parts.push(`example=${recording.example}`);
-    parts.push(`event=${addressOf(recording, at)}`, `view=${name}`);
+export function placeHere(app, views) {
+    const { cell, recording, at } = app, { view, name, choice } = views;
+    const parts = [`event=${addressOf(recording, at)}`, `view=${name}`];
     if (!view.fits && view.image) {
         const { x, y } = view.middle();
         parts.push(`zoom=${[view.scale, x, y].map(number => Math.round(100 * number) / 100)}`);
@@ -25,7 +24,18 @@ export function linkTo(app, views) {
         const { depth, page, palette } = texture;
         parts.push(`texture=${[depth, page.x, page.y, palette.x, palette.y]}`);
     }
-    return `#${parts.join('&')}`;
+    return parts.join('&');
+}
+
+/**
+ * Returns the part of a link from its `#` on: the example, if it is one, and what is seen.
+ * @param {App} app
+ * @param {Views} views
+ * @returns {string}
+ */
+export function linkTo(app, views) {
+    const { example } = app.recording;
+    return `#${example ? `example=${encodeURIComponent(example)}&` : ''}${placeHere(app, views)}`;
 }
 
 const asked = () => new URLSearchParams(location.hash.slice(1));
@@ -34,7 +44,10 @@ const numbersOf = (text, count) => {
     return numbers.length === count ? numbers : null;
 };
 
-/** Goes where the address of the page says: when it changes, and once for a recording that is opened. */
+/**
+ * Goes where the address of the page says: when it changes, and once for a recording that is opened. If it names no
+ * place, a recording that has one is opened there.
+ */
 export class Follower {
     /**
      * @param {App} app
@@ -48,6 +61,9 @@ export class Follower {
         this.changed();
     }
 
+    /** Whether the address of the page names an example. */
+    get namesExample() { return asked().has('example'); }
+
     changed() {
         this.followed = '';
         const example = asked().get('example');
@@ -58,17 +74,30 @@ export class Follower {
     }
 
     follow() {
-        const { app, views } = this, { recording } = app, link = asked();
-        if (!recording || location.hash === this.followed || link.size === 0) return;
-        if (link.has('example') && link.get('example') !== recording.example) return;
+        const { recording } = this.app, link = this.linkFor(recording);
+        if (!link.size) return;
         this.followed = location.hash;
+        this.show(recording, link);
+    }
+
+    // What the address asks for that was not followed so far, or else the place of the recording.
+    linkFor(recording) {
+        const link = location.hash === this.followed ? new URLSearchParams() : asked();
+        const isOther = link.has('example') && link.get('example') !== recording?.example;
+        if (!recording || isOther) return new URLSearchParams();
+        link.delete('example');
+        return link.size ? link : new URLSearchParams(recording.place ?? '');
+    }
+
+    show(recording, link) {
+        const { app, views } = this;
         const texture = numbersOf(link.get('texture'), 5), cell = numbersOf(link.get('cell'), 2);
-        const zoom = numbersOf(link.get('zoom'), 3), view = link.get('view');
+        const zoom = numbersOf(link.get('zoom'), 3) ?? numbersOf(link.get('zoom'), 1), view = link.get('view');
         if (cell) app.choose({ x: cell[0] & 1023, y: cell[1] & (recording.height - 1) });
         if (link.has('event')) this.seek(link.get('event'), view ? 'link' : 'cell');
         if (texture) views.choice.set(...texture);
         if (VIEWS.includes(view)) views.choose(view);
-        if (zoom) views.view.lookAt(...zoom);
+        if (zoom) views.lookAt(...zoom);
     }
 
     seek(text, how) {

@@ -9,11 +9,12 @@ import { makeMenu } from './menu.js';
 import { rowHere } from './packet_panel.js';
 import { pageWithAlpha } from '../views/pixels.js';
 import { copyOf } from '../reading/words.js';
+import { pageOfThis } from '../inside/cases.js';
 
 const CHOICES = {
     png: 'PNG of this view', texture: 'PNG of the texture page, with alpha', vram: 'Video memory (bytes)',
     ppm: 'Picture (PPM)', cut: 'Capture cut at this place', words: 'Copy the words of the packet',
-    link: 'Copy a link to this place',
+    link: 'Copy a link to this place', page: 'Page with this place',
 };
 
 export function save(parts, name, type = 'application/octet-stream') {
@@ -90,6 +91,9 @@ export class Out {
         this.follower.set(linkTo(this.app, this.views));
         await this.copy(location.href, 'the link');
     }
+
+    // A page with the recording inside, that opens at what is seen.
+    async page() { save([await pageOfThis(this.app, this.views)], `${this.base}.html`, 'text/html'); }
 
     async copy(text, what) {
         try {

@@ -123,6 +123,15 @@ export class Views {
         return name !== null;
     }
 
+    /** Shows a place of the image in the middle, at a scale; without a place the chosen cell, or else the middle. */
+    lookAt(scale, x, y) {
+        const { cell } = this.app, { view, look } = this, pixel = cell && look.pixelAt(cell);
+        view.resize();      // a note above the view may have changed its height
+        if (x !== undefined) view.lookAt(scale, x, y);
+        else if (pixel) view.lookAt(scale, pixel.x + 0.5, pixel.y + 0.5);
+        else view.lookAt(scale, view.width / 2, view.height / 2);
+    }
+
     // The pixel of the picture that was chosen may be another cell now: pictures are drawn into two buffers in turn.
     followPixel() {
         const { app, name, view, look } = this, { pixel, cell } = app;

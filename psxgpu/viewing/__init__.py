@@ -1,0 +1,1 @@
+"""Pages of the viewer with recordings inside: `psxgpu page`, `psxgpu view`, and the pages that reports link."""

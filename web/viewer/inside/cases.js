@@ -1,0 +1,62 @@
+// The cases inside the page: how one is opened, its note above the view, and the page with a case of what is open.
+
+import { element } from '../panels/dom.js';
+import { placeHere } from '../panels/link.js';
+import { bytesOfText, gzipped, textOfBytes, unpacked } from './packed.js';
+import { CASES, pageWith } from './page_source.js';
+
+// Bytes of a packed recording: browsers take no longer texts.
+const MOST = 2 ** 28;
+
+/** The names of the cases. */
+export const caseNames = CASES.map(({ name }) => name);
+
+/**
+ * Opens a case: its recording at its place, and a second one beside it if it has two. Only links of a page with several
+ * cases name them.
+ * @param {{receiver: Receiver, compare: ComparePanel}} page
+ * @param {string} name
+ * @returns {boolean} whether there is such a case
+ */
+export function openCase(page, name) {
+    const found = CASES.find(one => one.name === name);
+    if (found) openFiles(page, found, CASES.length > 1 ? { example: name } : {});
+    return Boolean(found);
+}
+
+async function openFiles({ receiver, compare }, { place, note, files: [first, second] }, from) {
+    await receiver.open(new Blob([bytesOfText(first.bytes)]), first.name, { place, note, ...from });
+    if (second) await compare.open(await unpacked(bytesOfText(second.bytes)), second.name);
+}
+
+/**
+ * Shows the note of what is open above the view.
+ * @param {App} app
+ */
+export function wireNote(app) {
+    app.on('opened', () => {
+        const { note } = app.recording;
+        element('note').hidden = !note;
+        element('note').textContent = note ?? '';
+    });
+}
+
+/**
+ * Returns this page with what is open inside. It opens at what is seen now.
+ * @param {App} app
+ * @param {Views} views
+ * @returns {Promise<string>}
+ * @throws {Error} if the recording has a fault, or is too long
+ */
+export async function pageOfThis(app, views) {
+    const { recording, beside } = app, second = beside?.second?.recording;
+    if (recording.isPart) throw new Error('the recording has a fault: make it whole first (psxgpu mend)');
+    const files = await Promise.all([recording, ...(second ? [second] : [])].map(fileOf));
+    return pageWith([{ name: recording.name, place: placeHere(app, views), note: recording.note ?? '', files }]);
+}
+
+async function fileOf({ name, source }) {
+    const bytes = await gzipped(source);
+    if (bytes.length > MOST) throw new Error(`${name} is too long for a page: cut it first (psxgpu page --frame)`);
+    return { name, bytes: textOfBytes(bytes) };
+}
