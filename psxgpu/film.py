@@ -15,6 +15,10 @@ from psxgpu.players.named import said_last
 from psxgpu.stopping import scratch, session
 
 FRAME = re.compile(rb'(\d{1,20}) (\d{1,5}) (\d{1,5}) [0-9a-f]{64}\n')      # a line of `sums`
+# How ffmpeg encodes: for players of video, or so that each pixel stays as it is (FFV1), with the same bytes in each run.
+SHOWN = ['-pix_fmt', 'yuv420p']
+LOSSLESS = ['-c:v', 'ffv1', '-level', '3', '-pix_fmt', 'bgr0', '-fflags', '+bitexact', '-flags:v', '+bitexact',
+            '-f', 'matroska']
 # Where a frame ends, as arguments of `frames` and `sums`.
 FLIPS: List[str] = []
 MARKS = ['marks']
@@ -74,10 +78,23 @@ def pour_pictures(source: IO[bytes], count: int, target: IO[bytes]) -> None:
                 target.write(part)
 
 
-def encode(ffmpeg: str, source: IO[bytes], pictures: Pictures, rate: int, size: Tuple[int, int], target: str) -> None:
-    """Writes the film of a stream of PPM pictures. Each is scaled to `size` without mixing its pixels."""
-    words = [ffmpeg, '-y', '-v', 'error', '-f', 'image2pipe', '-c:v', 'ppm', '-framerate', str(rate), '-i', '-',
-             '-vf', 'scale=%d:%d:flags=neighbor' % size, '-pix_fmt', 'yuv420p', target]
+class Form(NamedTuple):
+    """What a film is: its frames a second, its size, and the arguments with which ffmpeg encodes it."""
+    rate: int
+    size: Tuple[int, int]
+    coding: List[str]
+
+
+def form_of(pictures: Pictures, rate: int, scale: int, is_lossless: bool) -> Form:
+    """Returns the form of a film of these pictures. Both sides of a picture of yuv420p are even."""
+    width, height = (scale * side if is_lossless else (scale * side + 1) // 2 * 2 for side in pictures.size)
+    return Form(rate, (width, height), LOSSLESS if is_lossless else SHOWN)
+
+
+def encode(ffmpeg: str, source: IO[bytes], pictures: Pictures, form: Form, target: str) -> None:
+    """Writes the film of a stream of PPM pictures. Each is scaled without mixing its pixels."""
+    words = [ffmpeg, '-y', '-v', 'error', '-f', 'image2pipe', '-c:v', 'ppm', '-framerate', str(form.rate), '-i', '-',
+             '-vf', 'scale=%d:%d:flags=neighbor' % form.size, *form.coding, target]
     with scratch() as err:
         with session(words, stdin=subprocess.PIPE, stdout=subprocess.DEVNULL, stderr=err) as child:
             with contextlib.suppress(BrokenPipeError), cast(IO[bytes], child.stdin) as pipe:

@@ -35,6 +35,29 @@ class Films(support.InFolder):
             self.assertEqual(found.strip(), size + ',yuv420p')
         self.assertEqual(sorted(os.listdir(self.folder)), ['a.capture', 'film.mp4'])
 
+    @unittest.skipUnless(FFMPEG, 'ffmpeg is not installed')
+    def test_lossless(self):
+        """Each pixel is that of `frames`, also of odd sizes, and two runs write the same bytes."""
+        capture = c.Capture()
+        for k in range(3):
+            capture.gp0(c.fill(0x204080 * (k + 1), 0, 0, 640, 256), c.fill(0xFF + k, 16, 3, 16, 5))
+            capture.gp1(c.screen(0, 0, 256, 201), c.display_start(0, 0))
+        capture.save(self.path('a.capture'))
+        for name in 'one.mkv', 'two.mkv':
+            done = self.film('a.capture', name, '--lossless', '--scale', '1')
+            self.assertEqual((done.returncode, done.stderr), (0, ''))
+        self.assertEqual(self.read('one.mkv'), self.read('two.mkv'))
+        seen = subprocess.run([FFMPEG, '-v', 'error', '-i', self.path('one.mkv'), '-f', 'image2pipe', '-c:v', 'ppm', '-'],
+                              capture_output=True, check=True).stdout
+        with open(self.path('a.capture'), 'rb') as file:
+            frames = subprocess.run([support.PLAYER, 'frames'], stdin=file, capture_output=True, check=True).stdout
+        # Six flips. The last picture of `frames` is the one after the end, which is no frame here.
+        self.assertEqual(frames.count(b'P6\n256 201\n'), 7)
+        self.assertTrue(seen == frames[:len(frames) // 7 * 6])
+        done = self.film('a.capture', 'film.mp4', '--lossless')
+        self.assertEqual((done.returncode, done.stderr),
+                         (2, 'psxgpu film: film.mp4: a lossless film is one of Matroska: film.mkv\n'))
+
     def small_ffmpeg(self, text):
         os.chmod(self.write('ffmpeg', '#!/bin/sh\n' + text), 0o755)
         return ['--ffmpeg', self.path('ffmpeg')]
