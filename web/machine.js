@@ -49,11 +49,12 @@ export class Machine extends Handle {
         return all;
     }
 
-    /** The same, as a view. Memory for one note a word is reserved.
+    /** The same, as a view. Memory for one note a word is reserved. The notes come first there: they begin at a multiple
+     * of 8.
      * @param {Words} words */
     gp0NotesView(words) {
         const list = wordsOf(words), count = Math.max(1, list.length), { library } = this;
-        const at = library.reserve((4 + NOTE_BYTES) * count), notes = at + BigInt(4 * count);
+        const notes = library.reserve((NOTE_BYTES + 4) * count), at = notes + BigInt(NOTE_BYTES * count);
         library.words(at, list.length).set(list);
         this.do('gp0_notes', at, BigInt(list.length), notes, BigInt(count), library.small);
         const found = library.size(library.small);

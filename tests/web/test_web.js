@@ -66,10 +66,12 @@ function notesAndPicture() {
     const machine = library.machine();
     const notes = machine.gp0Notes([0xE1000000, 0x020000FF, 0, 0x00010010, 0xA0000000, 0, 0x00010002, 0]);
     const told = notes.map(({ event, word, classNumber, head, area }) => [event, word, classNumber, head, area]);
+    // Notes have 64-bit fields, so the module has to get them at a multiple of 8, also after an odd count of words.
+    const places = [[0], [0, 0], [0, 0, 0]].map(words => machine.gp0NotesView(words).words.byteOffset % 8);
     machine.gp1(0x08000001);
     const pixels = machine.pictureRgba(), [width, height] = machine.shape();
     machine.close();
-    return [told, [...pixels.subarray(4, 16)], pixels.length === 4 * width * height];
+    return [told, [...pixels.subarray(4, 16)], pixels.length === 4 * width * height, places];
 }
 function stepBack() {
     const machine = library.machine({ tall: true });

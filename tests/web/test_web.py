@@ -100,7 +100,7 @@ class Page:
     def test_notes_and_picture(self):
         told = [[1, 0, 7, 0xE1000000, None], [4, 3, 0, 0x020000FF, [0, 0, 15, 0]], [7, 6, 5, 0xA0000000, [0, 0, 1, 0]]]
         self.assertEqual(self.browser.evaluate('notesAndPicture()'),
-                         [told, [0, 0, 0, 255, 255, 0, 0, 255, 255, 0, 0, 255], True])
+                         [told, [0, 0, 0, 255, 255, 0, 0, 255, 255, 0, 0, 255], True, [0, 0, 0]])
 
     def test_step_back(self):
         self.assertEqual(self.browser.evaluate('stepBack()'), [0, 31])
