@@ -18,6 +18,7 @@ import sys
 import tempfile
 from typing import Any, List
 
+from proving.plan import jobs_alone
 from systems.toolchain import MODULES, ROOT, kit, module, tool
 
 CRATES = ('psxgpu_tool', 'psxgpu_c')
@@ -55,14 +56,17 @@ def rtlib() -> Any:
 def words_of(crate: str, folder: str, processor: str, made: str) -> List[str]:
     """Returns the command that builds a crate with the toolchain of a folder."""
     rt = rtlib()
-    words = rt.Crate(os.path.join(ROOT, 'crates', crate), ROOT, {}).words(['--jobs', '1'])
+    jobs = jobs_alone(crate, len(os.sched_getaffinity(0)))
+    words = rt.Crate(os.path.join(ROOT, 'crates', crate), ROOT, {}).words(['--jobs', str(jobs)])
     return [rt.RATTLE, 'build', *words, '--target', processor + '-unknown-linux-gnu', '--toolchain', folder,
             '--backend', 'llvm', *rt.KEPT, '-o', made]
 
 
 def keep(crate: str, processor: str) -> None:
     """Builds a crate and keeps its module. Ends this program if the crate is not proved; then no file is new."""
-    print('The kit compiles %s for %s: about a minute.' % (crate, processor), flush=True)
+    is_new = not os.path.isdir(os.path.join(ROOT, 'crates', crate, 'out', 'incremental'))
+    print('The kit compiles %s for %s: %s.' % (crate, processor, 'first it proves the crate, in some minutes' if is_new
+                                              else 'about a minute'), flush=True)
     made, kept = module(crate, processor, '.o' if crate == 'psxgpu_tool' else '.a'), module(crate, processor, '.bc')
     with tempfile.TemporaryDirectory(dir=MODULES) as folder:
         part = os.path.join(folder, 'module.bc')
