@@ -3,9 +3,9 @@
 
     python3 -m rust.pack_suite [OUT]
 
-It has the tests that `psxgpu conform --write` writes, with the cells, words and pictures that they expect. PLAYER names
-psxgpu_tool, which makes the flat captures of tests with DMA. The same suite gives the same bytes. The file begins with the
-length of what is packed; a block of LZ4 follows. rust/psxgpu/src/conformance/packed.rs reads it.
+It has the tests that `psxgpu conform --write` writes, with the cells, words and pictures that they expect. PLAYER
+names psxgpu_tool, which makes the flat captures of tests with DMA. The same suite gives the same bytes. The file begins
+with the length of what is packed; a block of LZ4 follows. rust/psxgpu/src/conformance/packed.rs reads it.
 """
 from __future__ import annotations
 

@@ -4,6 +4,7 @@
 #![cfg_attr(not(feature = "machine"), forbid(unsafe_code))]
 
 pub mod capture;
+pub mod conformance;
 #[cfg(feature = "machine")]
 mod machine;
 

@@ -31,16 +31,15 @@ fn a_machine_goes_to_another_thread_and_back() {
 
 #[test]
 fn machines_share_nothing() {
-    let results: Vec<_> = (0..4u32)
-        .map(|k| {
-            std::thread::spawn(move || {
-                let mut gpu = Gpu::new().unwrap();
-                gpu.gp0_words(&[0x0200_0000 + 8 * k, 0, 0x0010_0010]).unwrap();
-                gpu.cell(0, 0).unwrap()
-            })
-        })
-        .collect();
-    let cells: Vec<_> = results.into_iter().map(|thread| thread.join().unwrap()).collect();
+    let mut threads = Vec::new();
+    for k in 0..4 {
+        threads.push(std::thread::spawn(move || {
+            let mut gpu = Gpu::new().unwrap();
+            gpu.gp0_words(&[0x0200_0000 + 8 * k, 0, 0x0010_0010]).unwrap();
+            gpu.cell(0, 0).unwrap()
+        }));
+    }
+    let cells: Vec<_> = threads.into_iter().map(|thread| thread.join().unwrap()).collect();
     assert_eq!(cells, [0, 1, 2, 3]);
 }
 

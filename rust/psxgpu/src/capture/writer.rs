@@ -10,6 +10,8 @@ use super::record::{kind, Event, Start, CAPTURE_MOST, MOST_READS, RAM_BYTES, RAM
 const ROOM: usize = 65_536;
 const END: [u8; 4] = [0; 4];
 const START_BIT: u32 = 0x0100_0000;
+/// The bit of an address that ends a list.
+const END_OF_LIST: u32 = 0x80_0000;
 
 /// A player would refuse this start of DMA: a list that does not end or goes to main memory, mode 3, or more words than
 /// main memory has. Nothing was recorded: the words that the emulator nevertheless moves are for `gp0` and `read`.
@@ -187,12 +189,16 @@ impl<W: Write> Writer<W> {
     }
 
     fn before_channel_2(&mut self, start: Start, main_memory: &impl Fn(u32) -> u32) -> Result<(), Unplayable> {
-        match Use::of(start).ok_or(Unplayable)? {
-            Use::Writes(range) => self.memory().forget(range),
-            Use::Reads(range) => self.sync(range.words(), main_memory),
-            Use::ReadsList(first) => self.sync_list(first, main_memory)?,
+        let main_memory_use = Use::of(start).ok_or(Unplayable)?;
+        if matches!(main_memory_use, Use::ReadsList(first) if !has_end(first, main_memory)) {
+            return Err(Unplayable);
         }
         self.memory().replace_turns(None);
+        match main_memory_use {
+            Use::Writes(range) => self.memory().forget(range),
+            Use::Reads(range) => self.sync(range.words(), main_memory),
+            Use::ReadsList(first) => self.sync_list(first, main_memory),
+        }
         Ok(())
     }
 
@@ -355,24 +361,14 @@ impl<W: Write> Writer<W> {
     }
 
     /// Records the nodes of a list and the words after each.
-    fn sync_list(&mut self, first: u32, main_memory: &impl Fn(u32) -> u32) -> Result<(), Unplayable> {
-        let header = |address: u32| main_memory(address % RAM_BYTES / 4 * 4);
-        let mut nodes = 0;
+    fn sync_list(&mut self, first: u32, main_memory: &impl Fn(u32) -> u32) {
         let mut address = first;
-        while address & 0x80_0000 == 0 {
-            if nodes == RAM_WORDS {
-                return Err(Unplayable);
-            }
-            nodes += 1;
-            address = header(address);
+        while address & END_OF_LIST == 0 && self.is_open() {
+            let word = address / 4 % RAM_WORDS;
+            let header = main_memory(4 * word);
+            self.sync((0..=header >> 24).map(|at| (word + at) % RAM_WORDS), main_memory);
+            address = header;
         }
-        address = first;
-        while address & 0x80_0000 == 0 && self.is_open() {
-            let (word, node) = (address / 4 % RAM_WORDS, header(address));
-            self.sync((0..=node >> 24).map(|at| (word + at) % RAM_WORDS), main_memory);
-            address = node;
-        }
-        Ok(())
     }
 
     /// Returns the bytes of whole records among the first `most` of the buffer.
@@ -434,6 +430,18 @@ impl<W: Write> fmt::Debug for Writer<W> {
     }
 }
 
+/// Returns whether a list of main memory ends.
+fn has_end(first: u32, main_memory: &impl Fn(u32) -> u32) -> bool {
+    let mut address = first;
+    for _ in 0..=RAM_WORDS {
+        if address & END_OF_LIST != 0 {
+            return true;
+        }
+        address = main_memory(address / 4 % RAM_WORDS * 4);
+    }
+    false
+}
+
 /// Writes bytes. A write that a signal interrupts continues. Returns how many are written, and the error after fewer.
 fn write(out: &mut impl Write, bytes: &[u8]) -> (usize, io::Result<()>) {
     let mut written = 0;
@@ -463,3 +471,6 @@ fn length_of(bytes: &[u8]) -> usize {
 fn too_long() -> io::Error {
     io::Error::new(io::ErrorKind::Other, "a capture has at most 1 GB")
 }
+
+#[cfg(test)]
+mod tests;

@@ -241,7 +241,9 @@ impl Gpu {
             ffi::psxgpu_vram(self.handle.get(), at, ffi::VRAM_ROOM, &mut written)
         })?;
         let cells = &mut self.cells[..written / size_of::<u16>()];
-        cells.iter_mut().for_each(|cell| *cell = u16::from_le(*cell));
+        if cfg!(target_endian = "big") {
+            cells.iter_mut().for_each(|cell| *cell = u16::from_le(*cell));
+        }
         Ok(cells)
     }
 

@@ -4,14 +4,16 @@
 //!     driver records < CAPTURE            a line for each event, as tests/recorder/test_reader.c prints them
 //!     driver frames END < CAPTURE         the pictures of `flips` or `marks`, each as PPM
 //!     driver record FILE < CALLS          does the calls of a script, as calls.c
+//!     driver suite                        a line for each test of the suite
 mod record;
+mod suite;
 
 use std::env;
 use std::error::Error;
 use std::io::{self, Read, Write};
 use std::process;
 
-use psxgpu::capture::{Event, ReadError, Reader, Start};
+use psxgpu::capture::{Event, Reader, Start};
 use psxgpu::{frames, play, FrameEnd, Mode};
 
 type Result<T> = std::result::Result<T, Box<dyn Error>>;
@@ -23,6 +25,7 @@ fn main() {
     let result = match words[..] {
         ["record", path] => record::record(path, &mut out),
         ["records"] => records(&mut out),
+        ["suite"] => suite::print(&mut out),
         ["frames", end] => pictures(end, &mut out),
         ["play", ref mode @ ..] => played(mode, &mut out),
         _ => Err("wrong arguments".into()),
@@ -78,7 +81,7 @@ fn pictures(end: &str, out: &mut impl Write) -> Result<()> {
 fn records(out: &mut impl Write) -> Result<()> {
     let mut number = 0u64;
     for record in Reader::new(io::BufReader::new(io::stdin())) {
-        for event in record.map_err(|error: ReadError| Box::new(error))?.events() {
+        for event in record?.events() {
             number += 1;
             write!(out, "{} ", number)?;
             print_event(&event, out)?;
