@@ -1,5 +1,5 @@
-/* Does the calls of a script with psxgpu_capture.h: calls FILE < CALLS. A line is a call and its arguments in hexadecimal
-   digits; `poke` writes a word of the emulator's main memory. The crate's driver does the same calls. */
+/* Does the calls of a script with psxgpu_capture.h: calls FILE < CALLS. A line is a call and its arguments in
+   hexadecimal digits; `poke` writes a word of the emulator's main memory. The crate's driver does the same calls. */
 #include "psxgpu_capture.h"
 
 enum { ARGUMENTS = 8 };

@@ -1,5 +1,5 @@
-"""The crate's declarations are those of c/psxgpu.h: each function with its types, each field of the structures in order,
-each number."""
+"""The crate's declarations are those of c/psxgpu.h: each function with its types, each field of the structures in
+order, each number."""
 import os
 import re
 import unittest
@@ -31,7 +31,7 @@ def functions_of_c(text):
 
 def functions_of_rust(text):
     found = re.findall(r'pub fn (psxgpu_\w+)\(([^)]*)\)(?: -> ([^;]+))?;', text)
-    return {name: [*(it.split(':')[1].strip() for it in given.split(',') if it.strip()), *([returned] if returned else [])]
+    return {name: [*(it.split(':')[1].strip() for it in given.split(',') if it.strip()), *filter(None, [returned])]
             for name, given, returned in found}
 
 

@@ -40,7 +40,7 @@ def drawing(r):
 
 class AgainstTheProgram(unittest.TestCase):
     def expect_same(self, data, commands):
-        """Output, status and the first line of an error are those of the program. Returns how many runs were refused."""
+        """Output, status and first line of an error are those of the program. Returns how many runs were refused."""
         refused = 0
         for command in commands:
             found = driver('play', *command.split(), data=data)

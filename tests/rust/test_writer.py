@@ -55,7 +55,8 @@ def a_transfer(r):
     if kind < 0.15:
         return line('dma', r.choice((2, 2, 3)), address(r), r.getrandbits(32), r.choice(BAD))
     if kind < 0.3:
-        return line('dma', 6, address(r), r.choice((0, 1, 2, 9)) if r.random() < 0.2 else r.randrange(1, 20), CLEAR_TABLE)
+        count = r.choice((0, 1, 2, 9)) if r.random() < 0.2 else r.randrange(1, 20)
+        return line('dma', 6, address(r), count, CLEAR_TABLE)
     if kind < 0.35:
         return line('dma', 2, address(r), 0x00080000 + r.choice((0, 1)), r.choice(BLOCKS))
     return line('dma', 2, address(r), r.randrange(1, 4) << 16 | r.randrange(1, 9), r.choice(BLOCKS))
