@@ -1,7 +1,7 @@
 #!/usr/bin/env python3
 """Makes the packages.
 
-    python3 -m packages.build dist [FOLDER]         sources, the built program, the .debs, and their SHA-256 sums
+    python3 -m packages.build dist [FOLDER]         sources, the built program, the crate, the .debs, and SHA-256 sums
     python3 -m packages.build deb [FOLDER]          the .debs alone
     python3 -m packages.build dist-all [FOLDER]     the same as dist, and the packages of all other systems
 
@@ -17,6 +17,7 @@ import tarfile
 import tempfile
 
 from packages.common import NAME, PROGRAM, ROOT, ToolError, epoch, glibc, gzipped, processor, run, stage, version, write
+from packages.crate import crates
 from packages.debian import debs
 from packages.wheels import SYSTEMS as WHEELS, wheel
 from packages.zips import SYSTEMS as ZIPS, zipped
@@ -67,8 +68,8 @@ def others(folder):
 
 
 # `built` is for another processor, whose program is PLAYER.
-STEPS = {'dist': (sources, built, debs), 'deb': (debs,), 'built': (built, debs),
-         'dist-all': (sources, built, debs, others)}
+STEPS = {'dist': (sources, built, crates, debs), 'deb': (debs,), 'built': (built, debs),
+         'dist-all': (sources, built, crates, debs, others)}
 
 
 def main(what, folder='dist'):

@@ -129,7 +129,7 @@ def c_lines(path: str, count: int, put: str) -> List[str]:
         return output_of([program]).decode().splitlines()
 
 
-# JavaScript and documents.
+# JavaScript.
 
 def js_value(path: str, names: str, expression: str) -> Any:
     """Returns the value of an expression over declarations of a script."""
@@ -150,6 +150,21 @@ def js_constants(path: str) -> Iterator[Tuple[str, int]]:
     for name, value in re.findall(r'\bconst (\w+) = (\d+);', text):
         yield name, int(value)
 
+
+# Rust.
+
+def rust_constants(path: str) -> Table:
+    """Returns the numbers of a module's constants of 32 bits by their names."""
+    return {name: int(number) for name, number in re.findall(r'\bconst (\w+): u32 = (\d+);', text_of(path))}
+
+
+def rust_modes(path: str) -> Table:
+    """Returns the modes of a `match` by their numbers."""
+    found = re.findall(r'\bMode::(\w+)(?:\(.*?\))? => \((\d+),', text_of(path))
+    return {int(number): upper(name).lower().replace('_', ' ') for name, number in found}
+
+
+# Documents.
 
 def document_kinds() -> Table:
     """Returns the kinds of records of CAPTURE.md by their numbers."""

@@ -20,7 +20,7 @@ from typing import Callable, Iterator, List, NamedTuple, Sequence, Tuple
 
 from table_readers import (TAGS, Absent, Reader, Table, c_constants, c_lengths, c_tags, document_kinds,
                            js_constants, js_value, numbered, program_lengths, program_tags, rattle_codes, rattle_kinds,
-                           rattle_modes, scripts)
+                           rattle_modes, rust_constants, rust_modes, scripts)
 
 
 from examples import toy_gpu
@@ -30,6 +30,7 @@ from psxgpu.machine import MODES
 from psxgpu.packets.grammar import TABLE
 
 HEADER, RECORDER, MODE = 'c/psxgpu.h', 'recorder/psxgpu_capture.h', 'MODE_'
+CRATE = 'rust/psxgpu/src/'
 TOY = 'examples/toy_gpu'            # of the skeletons of a player
 NEVER = ('END', 'READ_FAULT')       # causes that no call returns: the header does not name them
 
@@ -79,6 +80,7 @@ def kind_copies() -> List[Copy]:
     return [Copy('psxgpu/records.py', lambda: numbered(names)),
             *in_scripts('const KIND = { END', lambda path: by_number(js_value(path, 'KIND', 'KIND'))),
             Copy(RECORDER, lambda: by_number(c_constants(RECORDER, 'PSXGPU_')), False),
+            Copy(CRATE + 'capture/record.rs', lambda: by_number(rust_constants(CRATE + 'capture/record.rs'))),
             Copy('docs/CAPTURE.md', document_kinds)]
 
 
@@ -92,6 +94,8 @@ def code_copies(codes: Table) -> List[Copy]:
                                   if not name.startswith(MODE)}),
             Copy('psxgpu/machine/library.py', lambda: {name: value for name, value in vars(binding).items() if name in codes},
                  False),
+            Copy(CRATE + 'machine/ffi.rs', lambda: {name: value for name, value in rust_constants(
+                CRATE + 'machine/ffi.rs').items() if name in codes}, False),
             *(Copy(path, script(path), False) for path in scripts())]
 
 
@@ -100,6 +104,7 @@ def mode_copies() -> List[Copy]:
     return [Copy(HEADER, lambda: {value: name.lower().replace('_', ' ') for name, value
                                   in c_constants(HEADER, 'PSXGPU_' + MODE).items()}),
             Copy('psxgpu/machine/__init__.py', lambda: {value: name for name, value in MODES.items()}),
+            Copy(CRATE + 'machine/playing.rs', lambda: rust_modes(CRATE + 'machine/playing.rs')),
             *in_scripts('const MODES =', lambda path: numbered(js_value(path, 'MODES', 'MODES')))]
 
 
