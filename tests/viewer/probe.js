@@ -74,6 +74,7 @@ const probe = (() => {
             const { track, version } = viewer.app.recording, words = [];
             for (let step = 0; step < track.length; step++) {
                 const kind = track.kind(step);
+                if (kind === module_track.STEP.OMITTED) continue;
                 words.push([0x02000001, 0x03000001, 0x04000001, 0x05000001, 0x09000001][kind]);
                 if (kind <= 1) words.push(track.word(step));
             }
@@ -89,6 +90,38 @@ const probe = (() => {
 
         // The file that is cut at this place, in base64.
         cutHere: async () => base64Of(await viewer.out.cutParts()),
+
+        // The rows of packets.
+        packetRows() {
+            const { rows } = viewer.app.recording, all = Array.from({ length: rows.length }, (_, row) => row);
+            return all.filter(row => rows.kindOf(row) < module_rows.KIND.GP1);
+        },
+
+        // Gives one field of a row another value, as the panel does: `at` and `values` choose it. False if it has none.
+        changeField(row, at, values) {
+            const { recording, whatIf } = viewer.app, { rows, track, height } = recording;
+            const fields = module_packet_fields.fieldsToChange({ kind: rows.kindOf(row), head: rows.head[row], height });
+            const field = fields[at % fields.length], words = Uint32Array.from(rows.words(row, track));
+            if (!field) return false;
+            field.parts.forEach((part, k) => {
+                const value = part.least + values[k] % (part.most - part.least + 1);
+                words[field.index] = part.write(words[field.index], value);
+            });
+            return whatIf.setWords(row, words);
+        },
+
+        // The changed recording as a file, in base64, and how many events of DMA are words in it.
+        async changedFile() {
+            const { parts, transfers } = await module_changed_file.changedFile(viewer.app.recording);
+            return [await base64Of(parts), transfers];
+        },
+
+        // What is seen at the end: sums of video memory and of the picture; and the changed file.
+        async changedEnd() {
+            await played();
+            viewer.app.seek(1e12);
+            return [await probe.memory(), await probe.picture(), await probe.changedFile()];
+        },
 
         // The address of each row, and whether each place is found again by its address.
         addresses() {
