@@ -97,17 +97,25 @@ const probe = (() => {
             return all.filter(row => rows.kindOf(row) < module_rows.KIND.GP1);
         },
 
-        // Gives one field of a row another value, as the panel does: `at` and `values` choose it. False if it has none.
-        changeField(row, at, values) {
-            const { recording, whatIf } = viewer.app, { rows, track, height } = recording;
+        // Changes a row as `choice` says: leaves it out, or gives a field another value as the panel does, or flips bits of a
+        // word. Returns whether anything is changed.
+        change({ row, how, at, values, bits }) {
+            const { recording, whatIf } = viewer.app, { rows, track, height, edition } = recording;
+            const words = Uint32Array.from(rows.words(row, track));
             const fields = module_packet_fields.fieldsToChange({ kind: rows.kindOf(row), head: rows.head[row], height });
-            const field = fields[at % fields.length], words = Uint32Array.from(rows.words(row, track));
-            if (!field) return false;
-            field.parts.forEach((part, k) => {
-                const value = part.least + values[k] % (part.most - part.least + 1);
-                words[field.index] = part.write(words[field.index], value);
-            });
-            return whatIf.setWords(row, words);
+            const field = fields[at % fields.length];
+            if (how === 0) whatIf.toggle(row);
+            else if (how === 1 || !field) {
+                words[at % words.length] ^= bits;
+                whatIf.setWords(row, words);
+            } else {
+                field.parts.forEach((part, k) => {
+                    const value = part.least + values[k] % (part.most - part.least + 1);
+                    words[field.index] = part.write(words[field.index], value);
+                });
+                whatIf.setWords(row, words);
+            }
+            return recording.edition > edition;
         },
 
         // The changed recording as a file, in base64, and how many events of DMA are words in it.
