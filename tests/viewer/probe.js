@@ -82,6 +82,7 @@ const probe = (() => {
             const { track, version } = viewer.app.recording, words = [];
             for (let step = 0; step < track.length; step++) {
                 const kind = track.kind(step);
+                if (kind === module_track.STEP.OMITTED) continue;
                 words.push([0x02000001, 0x03000001, 0x04000001, 0x05000001, 0x09000001][kind]);
                 if (kind <= 1) words.push(track.word(step));
             }
@@ -97,6 +98,46 @@ const probe = (() => {
 
         // The file that is cut at this place, in base64.
         cutHere: async () => base64Of(await viewer.out.cutParts()),
+
+        // The rows of packets.
+        packetRows() {
+            const { rows } = viewer.app.recording, all = Array.from({ length: rows.length }, (_, row) => row);
+            return all.filter(row => rows.kindOf(row) < module_rows.KIND.GP1);
+        },
+
+        // Changes a row as `choice` says: leaves it out, or gives a field another value as the panel does, or flips bits of a
+        // word. Returns whether anything is changed.
+        change({ row, how, at, values, bits }) {
+            const { recording, whatIf } = viewer.app, { rows, track, height, edition } = recording;
+            const words = Uint32Array.from(rows.words(row, track));
+            const fields = module_packet_fields.fieldsToChange({ kind: rows.kindOf(row), head: rows.head[row], height });
+            const field = fields[at % fields.length];
+            if (how === 0) whatIf.toggle(row);
+            else if (how === 1 || !field) {
+                words[at % words.length] ^= bits;
+                whatIf.setWords(row, words);
+            } else {
+                field.parts.forEach((part, k) => {
+                    const value = part.least + values[k] % (part.most - part.least + 1);
+                    words[field.index] = part.write(words[field.index], value);
+                });
+                whatIf.setWords(row, words);
+            }
+            return recording.edition > edition;
+        },
+
+        // The changed recording as a file, in base64, and how many events of DMA are words in it.
+        async changedFile() {
+            const { parts, transfers } = await module_changed_file.changedFile(viewer.app.recording);
+            return [await base64Of(parts), transfers];
+        },
+
+        // What is seen at the end: sums of video memory and of the picture; and the changed file.
+        async changedEnd() {
+            await played();
+            viewer.app.seek(1e12);
+            return [await probe.memory(), await probe.picture(), await probe.changedFile()];
+        },
 
         // The address of each row, and whether each place is found again by its address.
         addresses() {

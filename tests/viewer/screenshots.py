@@ -41,6 +41,12 @@ def main():
         page.press('4', '4')
         page.set('#palette', '0,480')
         take(page, 'viewer-texture.png')
+        page.set('#palette', '')
+        page.press('2', '2')
+        page.evaluate('[...document.querySelectorAll("#packet button")].find(it => it.textContent === "Change").click()')
+        page.set('#packet input[aria-label="palette: x, y"]', '0, 480')
+        page.ask('played')
+        take(page, 'viewer-changed.png')
 
 
 if __name__ == '__main__':

@@ -1,7 +1,8 @@
 // What is open, and the place that is shown. The panels listen: 'opened', 'arrived' (an opened recording is at its last
 // frame), 'moved' (another place), 'cell' (another cell is chosen), 'texture' (another page is chosen), 'second' (a
 // recording beside this one), 'goto' (show what differs), 'ahead' (the pass has played on), 'work' (its progress) and
-// 'said' (a line), 'costs' (more frames are counted) and 'compared' (what differs is shown in another way).
+// 'said' (a line), 'costs' (more frames are counted), 'compared' (what differs is shown in another way) and 'changed' (a
+// packet was changed; a 'moved' comes after it).
 
 import { adviceOf } from './reading/advice.js';
 import { Ahead } from './playing/ahead.js';
@@ -11,7 +12,7 @@ import { Pass } from './playing/pass.js';
 import { Player } from './playing/player.js';
 import { frameCount } from './playing/frames.js';
 import { Stopped, openFile } from './reading/opening.js';
-import { isDrawing, nextRow } from './panels/stepping.js';
+import { isStop, nextRow } from './panels/stepping.js';
 
 export class App extends EventTarget {
     constructor(library) {
@@ -20,6 +21,8 @@ export class App extends EventTarget {
         Object.assign(this, { how: 'time', listed: null, beside: null, framesBy: 'flips' });
         /** How what differs is shown: `as` is 'plain', 'pale', 'steps', or null for the usual one. */
         this.comparing = { as: null, isSwapped: false, tolerance: 0 };
+        /** The changes of the open recording. */
+        this.whatIf = null;
         this.machine = new Machine(library);
         this.ahead = new Ahead(this);
     }
@@ -163,7 +166,7 @@ export class App extends EventTarget {
     stepRows(by, isEvery = false) {
         if (!this.recording) return;
         const { rows, length } = this.recording, list = isEvery ? null : this.listed;
-        const row = nextRow(this, by, list, isEvery || list ? () => true : to => isDrawing(rows, to));
+        const row = nextRow(this, by, list, isEvery || list ? () => true : to => isStop(rows, to));
         if (row >= 0 && row < rows.length) this.seekRow(row);
         else this.seek(row < 0 ? 0 : length, 'packet');
     }

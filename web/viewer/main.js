@@ -1,6 +1,7 @@
 // Begins: the machine, the panels, files that are chosen or dropped, the examples that the page brings along.
 
 import { App } from './app.js';
+import { ChangesPanel } from './changing/changes_panel.js';
 import { ComparePanel } from './comparing/compare_panel.js';
 import { counted, element, made } from './panels/dom.js';
 import { addressOf } from './playing/address.js';
@@ -16,6 +17,7 @@ import { nameOf } from './reading/names.js';
 import { ListPanel } from './panels/list_panel.js';
 import { Out } from './panels/saving.js';
 import { PacketPanel } from './panels/packet_panel.js';
+import { PacketEditor } from './changing/packet_editor.js';
 import { PalettePanel } from './panels/palette_panel.js';
 import { PixelPanel } from './panels/pixel_panel.js';
 import { Receiver } from './reading/receiver.js';
@@ -23,6 +25,8 @@ import { RegistersPanel } from './panels/registers_panel.js';
 import { wireSplits } from './panels/resizing.js';
 import { Timeline } from './panels/timeline.js';
 import { Views } from './views/views.js';
+import { WhatIf } from './changing/what_if.js';
+import { wireBoxes } from './changing/list_box.js';
 
 // Opens files: those that are chosen or dropped, the cases inside the page, and the examples. Returns how a case or an
 // example is opened by its name.
@@ -88,7 +92,7 @@ function wireSpoken(app, timeline) {
         if (timeline.timer) return;
         timer = setTimeout(() => {
             const { recording, row, at } = app, { rows } = recording;
-            const name = row < 0 ? 'before the first packet' : nameOf(rows.kind[row], rows.head[row]);
+            const name = row < 0 ? 'before the first packet' : nameOf(rows.kindOf(row), rows.head[row]);
             element('spoken').textContent = `event ${addressOf(recording, at)}: ${name}`;
         }, 300);
     });
@@ -101,15 +105,18 @@ function wireFaults(app) {
 
 export async function main() {
     const library = await psxgpu.load();
-    const app = new App(library);
+    const app = new App(library), whatIf = app.whatIf = new WhatIf(app);
     const list = new ListPanel(app), views = new Views(app), pixel = new PixelPanel(app);
     new PacketPanel(app);
+    new PacketEditor(app, whatIf, views);
+    wireBoxes(list, whatIf);
     new PalettePanel(app, views);
     new RegistersPanel(app);
     const compare = new ComparePanel(app);
     const timeline = new Timeline(app), out = new Out(app, views);
     const table = new FrameTable(app, timeline.marks), memory = new MemoryPanel(app, views);
-    new Keys({ app, views, timeline });
+    new ChangesPanel(app, { whatIf, out, compare });
+    new Keys({ app, views, timeline, whatIf });
     wireFaults(app);
     wireSaid(app);
     wireSpoken(app, timeline);
@@ -121,7 +128,7 @@ export async function main() {
     out.follower = new Follower(app, views, openExample);
     if (caseNames.length && !out.follower.namesExample) openExample(caseNames[0]);
     app.warmUp();
-    return { app, list, views, pixel, timeline, out, compare, receiver, table, memory };
+    return { app, whatIf, list, views, pixel, timeline, out, compare, receiver, table, memory };
 }
 
 // Settled when the page can be used: the checks wait for it.

@@ -1,5 +1,5 @@
 // Which rows of two recordings correspond, by their words: what one of them alone has is passed over. Reads change no
-// cell, and dumps lack the status reads, so they are passed over too.
+// cell, and dumps lack the status reads, so they are passed over too, and so are the rows that a change leaves out.
 
 import { KIND } from '../reading/rows.js';
 import { STEP } from '../reading/track.js';
@@ -7,7 +7,8 @@ import { STEP } from '../reading/track.js';
 // How many rows are looked ahead, and how many of the same words in a row show that both go on together.
 const MOST_AHEAD = 128, TOGETHER = 3;
 
-const isRead = ({ rows }, row) => rows.kind[row] === KIND.READS || rows.kind[row] === KIND.STATUS;
+const PASSED = [KIND.READS, KIND.STATUS, KIND.OMITTED];
+const isPassed = ({ rows }, row) => PASSED.includes(rows.kind[row]);
 
 // Words for GP0 and GP1 of a row with its data; steps of other kinds are passed over.
 function* wordsOf({ rows, track }, row, end) {
@@ -40,8 +41,8 @@ export function sameRow(a, b, rowA, rowB) {
  */
 export function firstRowsApart(a, b) {
     for (let rowA = 0, rowB = 0; ; rowA++, rowB++) {
-        while (rowA < a.rows.length && isRead(a, rowA)) rowA++;
-        while (rowB < b.rows.length && isRead(b, rowB)) rowB++;
+        while (rowA < a.rows.length && isPassed(a, rowA)) rowA++;
+        while (rowB < b.rows.length && isPassed(b, rowB)) rowB++;
         const isEnd = [rowA === a.rows.length, rowB === b.rows.length];
         if (isEnd[0] && isEnd[1]) return null;
         if (isEnd[0] || isEnd[1] || !sameRow(a, b, rowA, rowB)) return { rowA, rowB };
@@ -52,7 +53,7 @@ export function firstRowsApart(a, b) {
 function keyed(recording, { first, end }) {
     const out = { rows: [], keys: [] };
     for (let row = first; row < end; row++) {
-        if (isRead(recording, row)) continue;
+        if (isPassed(recording, row)) continue;
         let key = recording.rows.kind[row] + 0x811C9DC5;
         for (const word of wordsOf(recording, row, recording.endOf(row))) key = Math.imul(key ^ word, 16777619);
         out.rows.push(row);

@@ -6,7 +6,8 @@ import { imageOfCells, imageOfPicture } from '../views/pixels.js';
 
 const DUMPS = [1048576, 2097152];
 
-async function pixelsOfPng(blob) {
+/** Returns the pixels of a PNG as they are in the file. */
+export async function pixelsOfPng(blob) {
     const image = await createImageBitmap(blob, { colorSpaceConversion: 'none', premultiplyAlpha: 'none' });
     const canvas = new OffscreenCanvas(image.width, image.height), context = canvas.getContext('2d');
     context.drawImage(image, 0, 0);

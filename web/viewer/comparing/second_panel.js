@@ -18,7 +18,9 @@ export class SecondPanel {
      * @param {() => void} leave ends the comparison
      */
     constructor(app, panel, leave) {
-        Object.assign(this, { app, panel, leave, second: null, parting: null, told: '', places: new SamePlace() });
+        Object.assign(this, { app, panel, leave, second: null, isPlayed: false, parting: null, told: '' });
+        this.places = new SamePlace();
+        app.on('changed', () => this.findAgain());
     }
 
     // A recording with the starts of its frames.
@@ -32,35 +34,45 @@ export class SecondPanel {
         app.tell('second');
         await second.playAll(part => this.tell(`playing ${recording.name}: ${Math.round(100 * part)} %`));
         if (second !== this.second) return;
+        this.isPlayed = true;
         app.show();
         await this.find(second);
     }
 
+    // The open recording was changed: both part elsewhere.
+    findAgain() {
+        if (this.diverge) this.diverge.isStopped = true;
+        this.parting = null;
+        if (this.isPlayed) this.find(this.second);
+    }
+
     async find(second) {
-        const { app } = this;
+        const { app } = this, { recording } = app, { edition } = recording;
+        const isAsked = () => second === this.second && edition === recording.edition;
         app.readAhead(app.pass);
-        while (second === this.second && !app.pass.isDone()) {
+        while (isAsked() && !app.pass.isDone()) {
             this.tell('waiting until the open recording is played');
             await new Promise(go => setTimeout(go, 100));
         }
-        if (second !== this.second) return;
+        if (!isAsked()) return;
         const machines = [new Machine(app.library), new Machine(app.library)];
         const sides = [app.recording, second.recording].map((recording, k) =>
             ({ ...this.side(recording), player: new Player(recording, machines[k]) }));
         this.diverge = new Diverge(...sides);
         try {
-            this.parting = await this.diverge.find((text, part) => this.tell(`${text}: ${Math.round(100 * part)} %`));
+            const parting = await this.diverge.find((text, part) => this.tell(`${text}: ${Math.round(100 * part)} %`));
+            if (isAsked()) this.parting = parting;
         } finally {
             machines.forEach(machine => machine.close());
         }
-        if (second === this.second) this.tell('');
+        if (isAsked()) this.tell('');
     }
 
     /** Ends the comparison. */
     close() {
         if (this.diverge) this.diverge.isStopped = true;
         this.second?.close();
-        Object.assign(this, { second: null, parting: null, diverge: null, told: '' });
+        Object.assign(this, { second: null, isPlayed: false, parting: null, diverge: null, told: '' });
         this.app.beside = null;
         this.app.tell('second');
     }

@@ -33,8 +33,8 @@ export class FrameTable {
             pick: index => app.seekRow(this.packets[index].row),
             current: () => this.packets.findIndex(({ row }) => row === app.row),
         });
-        app.on('opened', () => this.forget());
-        app.on('costs ahead opened', () => this.changed());
+        app.on('opened changed', () => this.forget());
+        app.on('costs ahead opened changed', () => this.changed());
         app.on('moved', () => { if (this.isOpen) [this.list, this.dearest].forEach(list => list.draw()); });
         element('frames-box').addEventListener('toggle', () => this.changed());
     }

@@ -26,7 +26,7 @@ export class MemoryPanel {
         });
         element('uploads-of').addEventListener('change', () => this.draw());
         element('memory-box').addEventListener('toggle', () => this.look());
-        app.on('opened', () => { this.forget(); this.look(); });
+        app.on('opened changed', () => { this.forget(); this.look(); });
         app.on('ahead', () => { if (app.pass.isDone()) this.look(); });
     }
 

@@ -46,7 +46,7 @@ export class Overdraw {
      * @returns {Uint8Array}
      */
     of(recording, { first, end }) {
-        const key = `${first} ${end}`;
+        const key = `${recording.edition} ${first} ${end}`;
         if (recording === this.recording && key === this.key) return this.counts;
         this.machine ??= new Machine(this.library);
         this.machine.clear();

@@ -46,11 +46,12 @@ export function wireNote(app) {
  * @param {App} app
  * @param {Views} views
  * @returns {Promise<string>}
- * @throws {Error} if the recording has a fault, or is too long
+ * @throws {Error} if the recording has a fault, is changed (events of a changed capture have other numbers), or is too long
  */
 export async function pageOfThis(app, views) {
     const { recording, beside } = app, second = beside?.second?.recording;
     if (recording.isPart) throw new Error('the recording has a fault: make it whole first (psxgpu mend)');
+    if (app.whatIf.count !== 0) throw new Error('packets are changed: save the changed capture, open it, then save the page');
     const files = await Promise.all([recording, ...(second ? [second] : [])].map(fileOf));
     return pageWith([{ name: recording.name, place: placeHere(app, views), note: recording.note ?? '', files }]);
 }

@@ -3,10 +3,11 @@
 import { element } from './dom.js';
 import { VIEWS } from '../views/view_images.js';
 
-const isText = ({ target }) => target.matches('input:not([type=range]):not([type=checkbox]), select, textarea');
+/** Whether a key is pressed in a field, which takes it. */
+export const isText = ({ target }) => target.matches('input:not([type=range]):not([type=checkbox]), select, textarea');
 
 export class Keys {
-    constructor({ app, views, timeline }) {
+    constructor({ app, views, timeline, whatIf }) {
         Object.assign(this, { app, views, timeline });
         const { go } = timeline;
         this.everywhere = {
@@ -17,7 +18,7 @@ export class Keys {
             g: () => element('event').select(), '/': () => element('query').select(), o: () => element('open').click(),
             v: () => element('canvas').focus(), '?': () => element('keys').showModal(),
             '+': () => views.view.zoom(1.5), '=': () => views.view.zoom(1.5), '-': () => views.view.zoom(1 / 1.5),
-            0: () => views.view.fit(),
+            0: () => views.view.fit(), x: () => whatIf.toggle(app.row),
         };
         addEventListener('keydown', event => this.pressed(event));
         element('help').addEventListener('click', () => element('keys').showModal());

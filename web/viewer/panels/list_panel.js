@@ -3,10 +3,11 @@
 import { longestAddress, rowAddress } from '../playing/address.js';
 import { KIND } from '../reading/rows.js';
 import { List } from './list.js';
+import { boxOf, markChange } from '../changing/list_box.js';
 import { element, grouped, made, swatch } from './dom.js';
 import { lastUpTo } from '../numbers.js';
 import { cellProblem, find } from './search.js';
-import { isDrawing } from './stepping.js';
+import { isStop } from './stepping.js';
 import { readWords } from './packet_panel.js';
 import { hex, nameOf } from '../reading/names.js';
 import { colorIn, shortOf } from '../reading/words.js';
@@ -14,7 +15,7 @@ import { colorIn, shortOf } from '../reading/words.js';
 // How many words of a read are shown in its row.
 const FEW_READ = 3;
 
-const FILTERS = { packets: (rows, row) => rows.isPacket(row), drawing: isDrawing };
+const FILTERS = { packets: (rows, row) => rows.isPacket(row) || rows.isOmitted(row), drawing: isStop };
 
 // How many characters the names of a recording's packets have at most. Those of words for GP1 may be longer.
 function longestName({ rows }) {
@@ -37,7 +38,8 @@ export class ListPanel {
             current: () => this.indexOf(app.row ?? -1),
         });
         app.on('opened', () => this.opened());
-        app.on('moved', () => { this.list.reveal(this.list.does.current()); this.tellFound(); });
+        app.on('moved', () => this.moved());
+        app.on('changed', () => this.changed());
         app.on('ahead', () => this.list.draw());
         for (const kind of ['pointerdown', 'wheel', 'input']) {
             element('left').addEventListener(kind, () => app.ahead.stay(), { passive: true });
@@ -50,6 +52,19 @@ export class ListPanel {
             if (event.key === 'Enter' && event.shiftKey) { event.preventDefault(); this.goOn(-1); }
             if (event.key === 'Escape') element('list').focus({ preventScroll: true });
         });
+    }
+
+    // A change leaves the list where it is.
+    moved() {
+        if (this.app.how === 'change') this.list.draw(); else this.list.reveal(this.list.does.current());
+        this.tellFound();
+    }
+
+    // What is found or listed may be other rows now.
+    changed() {
+        const { offset } = this.list;
+        if (this.found || this.shown) this.search();
+        this.list.moveTo(offset);
     }
 
     rowAt(index) { return this.shown ? this.shown[index] : index; }
@@ -118,16 +133,17 @@ export class ListPanel {
     }
 
     draw(line, row) {
-        const { app } = this, { rows, height } = app.recording, kind = rows.kind[row], head = rows.head[row];
+        const { app } = this, { rows, height } = app.recording, kind = rows.kindOf(row), head = rows.head[row];
         if (rows.done[row] >= app.at) line.classList.add('later');
         if (kind === KIND.GP1) line.classList.add('control');
         if (kind > KIND.GP1) line.classList.add('read');
         const count = rows.done[row] - rows.first[row] + 1, color = colorIn(kind, head), area = rows.area(row);
         const short = kind > KIND.GP1 ? this.readText(row, count) : shortOf(kind, head, height);
         line.title = kind > KIND.GP1 ? '' : `${hex(head)} ${short}`;
-        line.replaceChildren(made('span', 'number', rowAddress(app.recording, row)),
+        const change = markChange(line, app.recording, row);
+        line.replaceChildren(boxOf(app.recording, row), made('span', 'number', rowAddress(app.recording, row)),
             made('span', 'name', nameOf(kind, head)),
             color ? swatch(color) : made('span', short && !area ? 'no-swatch none' : 'no-swatch'),
-            made('span', 'tail', made('span', 'rest', short), made('span', 'area', area ? areaText(area) : '')));
+            made('span', 'tail', made('span', 'rest', change + short), made('span', 'area', area ? areaText(area) : '')));
     }
 }

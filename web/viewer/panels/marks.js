@@ -20,7 +20,7 @@ export class Marks {
         Object.assign(this, { app, canvas: element('marks'), costs: null, bars: null });
         new ResizeObserver(() => this.resize()).observe(this.canvas);
         this.resize();
-        app.on('opened', () => this.count());
+        app.on('opened changed', () => this.count());
         app.on('ahead', () => { if (app.pass.isDone()) this.count(); else this.draw(); });
         app.on('moved', () => this.draw());
         matchMedia('(prefers-color-scheme: dark)').addEventListener('change', () => this.repaint());

@@ -13,8 +13,8 @@ import { controlText, fieldsOf, settingText } from '../reading/words.js';
 export function rowHere({ recording, row, registers }) {
     if (!recording || row < 0) return null;
     const { rows, track, height } = recording;
-    const kind = rows.kind[row], head = rows.head[row], words = kind >= KIND.READS ? [] : rows.words(row, track);
-    const packet = rows.isPacket(row) ? packetOf(kind, head, words, { registers, height }) : {};
+    const kind = rows.kindOf(row), head = rows.head[row], words = kind >= KIND.READS ? [] : rows.words(row, track);
+    const packet = kind <= KIND.JOINT ? packetOf(kind, head, words, { registers, height }) : {};
     return { row, kind, head, words, packet, area: rows.area(row), isKnown: rows.near[row] !== 0xFFFFFFFE };
 }
 
@@ -56,13 +56,15 @@ function verticesOf(packet, offset) {
 
 export class PacketPanel {
     constructor(app) {
-        this.app = app;
-        app.on('opened moved', () => this.draw());
-        app.on('ahead', () => { if (app.row >= 0 && app.recording.rows.kind[app.row] >= KIND.READS) this.draw(); });
+        Object.assign(this, { app, told: made('div') });
+        element('packet').append(this.told);
+        app.on('opened moved changed', () => this.draw());
+        app.on('ahead', () => { if (this.waits) this.draw(); });
     }
 
     draw() {
-        const here = rowHere(this.app), panel = element('packet');
+        const here = rowHere(this.app), panel = this.told;
+        this.waits = here !== null && (!here.isKnown || here.kind >= KIND.READS);
         if (!here) {
             panel.replaceChildren(made('p', 'quiet', 'Before the first packet.'));
             return;
@@ -79,7 +81,7 @@ export class PacketPanel {
             kind >= KIND.READS && ['reads', grouped(count)],
             packet.color !== undefined && ['colour', swatch(cssOf(packet.color)), ` ${cssOf(packet.color)}`],
             ...fieldsOf(kind, head, packet, this.app.registers),
-            ['area', this.areaText(here)],
+            ['area', this.app.recording.rows.isOmitted(row) ? 'none: it is left out' : this.areaText(here)],
         ]), ...(packet.vertices ? [verticesOf(packet, offsetOf(this.app.registers[4]))] : []),
         ...this.wordsOf(words, done - rows.done[row] - 1), ...(kind >= KIND.READS ? this.readsOf(row, count) : []));
     }

@@ -1,9 +1,10 @@
 // What leaves the page: files that are saved, text for the clipboard, a link to a place.
 
 import { addressOf } from '../playing/address.js';
+import { changedFile, cutChanged } from '../changing/changed_file.js';
 import { Machine } from '../playing/machine.js';
 import { cutAt } from '../playing/cut.js';
-import { element, made } from './dom.js';
+import { counted, element, made } from './dom.js';
 import { linkTo } from './link.js';
 import { makeMenu } from './menu.js';
 import { rowHere } from './packet_panel.js';
@@ -13,7 +14,7 @@ import { pageOfThis } from '../inside/cases.js';
 
 const CHOICES = {
     png: 'PNG of this view', texture: 'PNG of the texture page, with alpha', vram: 'Video memory (bytes)',
-    ppm: 'Picture (PPM)', cut: 'Capture cut at this place', words: 'Copy the words of the packet',
+    ppm: 'Picture (PPM)', cut: 'Capture cut at this place', changed: 'Changed capture', words: 'Copy the words of the packet',
     link: 'Copy a link to this place', page: 'Page with this place',
 };
 
@@ -45,7 +46,9 @@ export class Out {
         else this[what]().catch(fault => app.warn(`${CHOICES[what]}: ${fault.message}`));
     }
 
-    get base() { return `${this.app.recording.name.replace(/\.[a-z0-9.]*$/i, '')}-${this.place}`; }
+    get stem() { return this.app.recording.name.replace(/\.[a-z0-9.]*$/i, ''); }
+
+    get base() { return `${this.stem}-${this.place}`; }
 
     get place() { return addressOf(this.app.recording, this.app.at); }
 
@@ -79,11 +82,25 @@ export class Out {
 
     async cut() { save(await this.cutParts(), `${this.base}.snapshot`); }
 
+    // The whole recording with its changes.
+    async changed() {
+        const { app } = this, { recording, whatIf } = app;
+        if (whatIf.count === 0) throw new Error('nothing is changed: leave a packet out, or change its words');
+        const { parts, transfers } = await changedFile(recording), what = recording.start ? 'snapshot' : 'capture';
+        const name = `${this.stem}-changed.${what}`;
+        save(parts, name);
+        whatIf.saved();
+        app.say(`Saved ${name}: ${counted(whatIf.count, 'packets')} changed.` + (transfers === 0 ? '' : ` The words of `
+            + `${counted(transfers, 'events')} of DMA with changed packets are words for GP0 in it.`));
+    }
+
     async cutParts() {
         const { app } = this;
         if (app.recording.eventAt(app.at) === 0) throw new Error('nothing is played yet: choose a later event');
         this.machine ??= new Machine(app.library);
-        return cutAt(app.recording, app.at, { player: app.player, machine: this.machine });
+        const machines = { player: app.player, machine: this.machine };
+        return app.whatIf.count === 0 ? cutAt(app.recording, app.at, machines)
+            : cutChanged(app.recording, app.at, machines, app.library);
     }
 
     // A link to what is seen, in the same recording.

@@ -1,6 +1,7 @@
 // Finds rows: by name and kind ("polygon textured"), by a word in eight hexadecimal digits, by a cell ("@ 120,40").
 
 import { KIND } from '../reading/rows.js';
+import { STEP } from '../reading/track.js';
 import { nameOf } from '../reading/names.js';
 import { rowsAt } from '../playing/candidates.js';
 import { tagsOf } from '../reading/words.js';
@@ -35,7 +36,7 @@ export function find(recording, text) {
 function rowsNamed({ rows }, parts) {
     const answers = new Map(), out = [];
     for (let row = 0; row < rows.length; row++) {
-        const kind = rows.kind[row], head = rows.head[row], key = kind * 256 + (head >>> 24);
+        const kind = rows.kindOf(row), head = rows.head[row], key = kind * 256 + (head >>> 24);
         let answer = answers.get(key);
         if (answer === undefined) {
             const all = [nameOf(kind, head), ...tagsOf(kind, head), ...(kind === KIND.GP1 ? ['gp1'] : [])];
@@ -52,7 +53,7 @@ function rowsWithWord(recording, word) {
     for (let piece = 0, base = 0; base < track.length; piece++, base += track.words[piece - 1].length) {
         const words = track.words[piece], kinds = track.kinds[piece];
         for (let at = words.indexOf(word); at >= 0 && base + at < track.length;) {
-            const row = kinds[at] > 1 ? -1 : rowOf(rows, base + at);
+            const row = kinds[at] > 1 && kinds[at] !== STEP.OMITTED ? -1 : rowOf(rows, base + at);
             if (row >= 0 && out.at(-1) !== row) out.push(row);
             const next = row < 0 ? at + 1 : Math.max(at + 1, recording.endOf(row) - base);
             at = words.indexOf(word, next);
@@ -65,6 +66,6 @@ function rowsWithWord(recording, word) {
 function rowOf(rows, step) {
     const next = rows.at(step) + 1;
     if (next < rows.length && rows.first[next] <= step) return next;
-    for (let row = next - 1; row >= 0; row--) if (rows.kind[row] === KIND.LOAD) return row;
+    for (let row = next - 1; row >= 0; row--) if (rows.kindOf(row) === KIND.LOAD) return row;
     return -1;
 }

@@ -15,6 +15,9 @@ export function isDrawing(rows, row) {
     return (kind >= KIND.POLYGON && kind <= KIND.LOAD) || kind === KIND.JOINT;
 }
 
+/** Returns whether the arrow keys go to a row: a packet that draws, or one that a change leaves out. */
+export const isStop = (rows, row) => isDrawing(rows, row) || rows.isOmitted(row);
+
 /**
  * Returns the next row in a direction that ends at another place than this one.
  * @param {{recording: Recording, row: number, at: number}} app

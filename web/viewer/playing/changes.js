@@ -9,7 +9,7 @@ export class Changes {
      * @param {App} app
      * @param {() => void} found called when the changes of the cell that was asked for last are there
      */
-    constructor(app, found) { Object.assign(this, { app, found, history: null, machine: null, isWhole: false }); }
+    constructor(app, found) { Object.assign(this, { app, found, history: null, edition: 0, machine: null, isWhole: false }); }
 
     /**
      * Returns the changes of a cell of the open recording, all of which was played; null if they are looked for.
@@ -18,7 +18,8 @@ export class Changes {
      */
     of({ x, y }) {
         const { history, app } = this;
-        if (!history || history.recording !== app.recording || history.cell.x !== x || history.cell.y !== y) {
+        const isOf = history?.recording === app.recording && this.edition === app.recording.edition;
+        if (!isOf || history.cell.x !== x || history.cell.y !== y) {
             this.look({ x, y });
             return null;
         }
@@ -30,7 +31,7 @@ export class Changes {
         if (this.history) this.history.isStopped = true;
         this.machine ??= new Machine(app.library);
         const history = this.history = new History(app.recording, this.machine, cell);
-        this.isWhole = false;
+        Object.assign(this, { isWhole: false, edition: app.recording.edition });
         await history.run(app.at, () => {}, breath);
         if (history !== this.history) return;
         this.isWhole = true;

@@ -4,34 +4,19 @@
 import { renumbered } from '../reading/outline.js';
 import { RecordReader } from '../reading/reader.js';
 import { STEP } from '../reading/track.js';
+import { FileWords } from './file_words.js';
 import { toStart } from './player.js';
 import { bytesOf } from '../reading/opening.js';
 
 const TAG = { RAM: 0x01000001, GP0: 0x02000001, GP1: 0x03000001, READ: 0x04000001, STAT: 0x05000001, TURN: 0x08000001,
     SKIP: 0x09000001 };
-const PART = 1 << 18;
-
-// Writes words into parts of a file.
-class Words {
-    constructor() { Object.assign(this, { parts: [], room: new Uint32Array(PART), used: 0 }); }
-
-    put(...words) {
-        if (this.used + words.length > PART) this.close();
-        for (const word of words) this.room[this.used++] = word;
-    }
-
-    close() {
-        this.parts.push(this.room.slice(0, this.used));
-        this.used = 0;
-    }
-}
 
 /** Takes records: plays the events up to a number on a machine, and writes the others. */
 export class Cutter {
     // `machine` is null where the state after the last event is known, so that nothing has to be played. `inside` has the
     // words of the next event that are before the place, and those after it; null where the event is whole.
     constructor(machine, event, played, inside = null) {
-        Object.assign(this, { machine, event, played, inside, words: new Words() });
+        Object.assign(this, { machine, event, played, inside, words: new FileWords() });
     }
 
     get isInside() { return this.inside !== null && this.played === this.event; }
@@ -120,8 +105,8 @@ export async function cutAt(recording, steps, { player, machine }) {
     return [state ?? machine.stateView().slice(), ...cutter.words.parts];
 }
 
-// Gives the records of the recording's file to a reader.
-async function takeAll(recording, records, start) {
+/** Gives the records of the recording's file to a reader. `start`: the offset of the first. */
+export async function takeAll(recording, records, start) {
     let skipped = start;
     try {
         for await (const piece of bytesOf(recording.source)) {

@@ -38,8 +38,16 @@ export class Keyframes {
     // Lets every other state go, but for the first.
     thin() {
         this.frames = this.frames.filter((_, k) => k % 2 === 0);
-        this.bytesKept = 4 * TILE_WORDS * new Set(this.frames.flatMap(({ tiles }) => tiles)).size;
+        this.countBytes();
     }
+
+    // Lets the states after a step go.
+    dropAfter(step) {
+        this.frames.length = this.indexAt(step) + 1;
+        this.countBytes();
+    }
+
+    countBytes() { this.bytesKept = 4 * TILE_WORDS * new Set(this.frames.flatMap(({ tiles }) => tiles)).size; }
 
     // Keeps the state after `step` steps, later than all that are kept. `bytes`: those of a snapshot.
     add(step, bytes) {
@@ -69,6 +77,9 @@ export class Keyframes {
         }
         return low - 1;
     }
+
+    // Whether the state after this number of steps is kept.
+    isKept(step) { return this.frames.at(-1)?.step === step; }
 
     stepOf(index) { return this.frames[index].step; }
 

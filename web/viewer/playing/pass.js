@@ -2,7 +2,7 @@
 // notes, which give the areas of its packets. The words that are read are kept in the track. It can be stopped and gone on
 // with.
 
-import { KIND, NO_AREA } from '../reading/rows.js';
+import { KIND, NOT_YET, NO_AREA } from '../reading/rows.js';
 import { playOther, toStart } from './player.js';
 
 // Milliseconds that a slice is to be played in, and how many steps it has at least and at most.
@@ -34,11 +34,22 @@ export class Pass {
     // Keeps a state, or every second, fourth .. where they would be too many.
     keep(state) {
         const { keyframes } = this.recording;
-        if (this.count++ % this.every !== 0) return;
+        if (this.count++ % this.every !== 0 || keyframes.isKept(this.at)) return;
         keyframes.add(this.at, state);
         if (!keyframes.isFull) return;
         keyframes.thin();
         this.every *= 2;
+    }
+
+    /** Goes back to the last state that is kept up to a step: the steps from there on are played anew. */
+    rewind(step) {
+        const { recording: { keyframes, rows }, machine } = this, last = keyframes.indexAt(step), end = this.row;
+        if (this.at <= step) return;
+        if (last < 0) toStart(machine, this.recording); else machine.load(keyframes.bytes(last));
+        this.at = last < 0 ? 0 : keyframes.stepOf(last);
+        this.count = Math.max(0, last) * this.every;
+        this.row = rows.at(this.at) + 1;
+        for (let row = this.row; row < end; row++) if (rows.isPacket(row)) rows.near[row] = NOT_YET;
     }
 
     // Plays up to a step, and puts the areas of its packets into their rows.

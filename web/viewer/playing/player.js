@@ -6,7 +6,7 @@ import { STEP } from '../reading/track.js';
 export function playOther(machine, kind, word) {
     if (kind === STEP.READ) return machine.read();
     if (kind === STEP.STAT) return machine.status();
-    if (kind === STEP.GP1) machine.gp1(word); else machine.skip();
+    if (kind === STEP.GP1) machine.gp1(word); else if (kind === STEP.SKIP) machine.skip();
     return undefined;
 }
 
@@ -48,4 +48,7 @@ export class Player {
         playSteps(this.machine, track, this.at, step);
         this.at = step;
     }
+
+    /** A step was changed: a state after it is no longer that of the recording. */
+    rewind(step) { if (this.at > step) this.at = -1; }
 }

@@ -4,7 +4,7 @@ import { Keyframes } from '../playing/keyframes.js';
 import { dataWords } from './grammar.js';
 import { KIND, Rows } from './rows.js';
 import { Splitter } from './splitter.js';
-import { STEP, Track } from './track.js';
+import { STEP, Track, isWord } from './track.js';
 
 export class Recording {
     // `head`: its first eight bytes as text; `start`: the bytes of the state that a snapshot begins with, or null, and
@@ -20,6 +20,8 @@ export class Recording {
         if (this.pending) this.splitter.resume(this.pending);
         this.keyframes = new Keyframes();
         this.needsMemory = false;
+        /** Rises with each change: what was computed of another edition is computed anew. */
+        this.edition = 0;
     }
 
     get length() { return this.track.length; }
@@ -40,14 +42,14 @@ export class Recording {
     // After how many steps a row has done all that it does: of a load, when its data are there.
     endOf(row) {
         const end = this.rows.done[row] + 1;
-        return this.rows.kind[row] === KIND.LOAD ? this.dataEnd(row, end) : end;
+        return this.rows.kindOf(row) === KIND.LOAD ? this.dataEnd(row, end) : end;
     }
 
     // The words of a row; of a load, its data, too.
     wordsOf(row) {
         const out = this.rows.words(row, this.track);
         for (let step = this.rows.done[row] + 1; step < this.endOf(row); step++) {
-            if (this.track.kind(step) === STEP.GP0) out.push(this.track.word(step));
+            if (isWord(this.track.kind(step))) out.push(this.track.word(step));
         }
         return out;
     }
@@ -57,7 +59,7 @@ export class Recording {
         let left = dataWords(track.word(end - 1)), at = end;
         for (; left > 0 && at < track.length; at++) {
             const kind = track.kind(at);
-            if (kind === STEP.GP0) left--;
+            if (isWord(kind)) left--;
             else if (kind === STEP.GP1 && (track.word(at) & 0x3E000000) === 0) return end;
         }
         return at;

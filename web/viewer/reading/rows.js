@@ -1,11 +1,11 @@
 // The rows of the list: packets and their parts, words for GP1, and reads in a row. They are in the order in which
 // they are completed. A row has its first step and the one that completes it, its kind, its head and its area.
 
-import { STEP } from './track.js';
+import { STEP, isWord } from './track.js';
 
-/** 0 to 8 are the classes of notes; a joint of a polyline is of class 2, too. */
+/** 0 to 8 are the classes of notes; a joint of a polyline is of class 2, too. A row that a change leaves out is OMITTED. */
 export const KIND = { OTHER: 0, POLYGON: 1, LINE: 2, RECTANGLE: 3, COPY: 4, LOAD: 5, STORE: 6, SETTING: 7, FINISH: 8,
-    JOINT: 12, GP1: 16, READS: 17, STATUS: 18 };
+    JOINT: 12, OMITTED: 14, GP1: 16, READS: 17, STATUS: 18 };
 
 /** In the place of an area: there is none, or it is not known yet. */
 export const NO_AREA = 0xFFFFFFFF;
@@ -19,6 +19,8 @@ export class Rows {
         this.kind = new Uint8Array(FIRST_ROOM);
         for (const name of ['first', 'done', 'head', 'near', 'far']) this[name] = new Uint32Array(FIRST_ROOM);
         this.earlier = { row: -1, words: [] };
+        /** The kinds of the rows that changes leave out. */
+        this.omitted = new Map();
     }
 
     grow() {
@@ -41,6 +43,11 @@ export class Rows {
     }
 
     isPacket(row) { return this.kind[row] <= KIND.JOINT; }
+
+    isOmitted(row) { return this.kind[row] === KIND.OMITTED; }
+
+    // The kind of a row in the recording, also if a change leaves it out.
+    kindOf(row) { return this.isOmitted(row) ? this.omitted.get(row) : this.kind[row]; }
 
     // A row's area as its corners, both inside; null where it has none, or where it is not known yet.
     area(row) {
@@ -69,7 +76,7 @@ export class Rows {
         const out = row === this.earlier.row ? [...this.earlier.words] : [];
         for (let step = this.first[row]; step <= this.done[row]; step++) {
             const kind = track.kind(step);
-            if (kind === STEP.GP0 || (kind === STEP.GP1 && this.kind[row] === KIND.GP1)) out.push(track.word(step));
+            if (isWord(kind) || (kind === STEP.GP1 && this.kind[row] === KIND.GP1)) out.push(track.word(step));
         }
         return out;
     }

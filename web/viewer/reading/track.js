@@ -1,7 +1,11 @@
 // The steps of a recording: a word for GP0 or GP1, or a read of a port, whatever brought it there. A step has a kind, a
 // word, and the number of the event that made it. They lie in pieces, so that nothing is moved as a recording grows.
 
-export const STEP = { GP0: 0, GP1: 1, READ: 2, STAT: 3, SKIP: 4 };
+/** OMITTED is a word for GP0 that a change leaves out: it is not played. */
+export const STEP = { GP0: 0, GP1: 1, READ: 2, STAT: 3, SKIP: 4, OMITTED: 5 };
+
+/** Returns whether a step of a kind is a word for GP0, played or left out. */
+export const isWord = kind => kind === STEP.GP0 || kind === STEP.OMITTED;
 
 export const PIECE = 1 << 20;
 const MASK = PIECE - 1;
@@ -63,6 +67,8 @@ export class Track {
     word(step) { return this.words[step >> 20][step & MASK]; }
 
     setWord(step, word) { this.words[step >> 20][step & MASK] = word; }
+
+    setKind(step, kind) { this.kinds[step >> 20][step & MASK] = kind; }
 
     // The number of the event that made a step.
     event(step) {

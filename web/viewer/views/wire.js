@@ -18,12 +18,13 @@ function linesOf({ kind, points, size }) {
 
 /** The wireframe of the last frame that was asked for. */
 export class Wire {
-    constructor() { Object.assign(this, { recording: null, first: -1, end: -1, lines: [] }); }
+    constructor() { Object.assign(this, { recording: null, edition: 0, first: -1, end: -1, lines: [] }); }
 
     /** Returns pairs of points, in cells, of the primitives of rows. */
     of(recording, { first, end }) {
-        if (recording !== this.recording || first !== this.first || end !== this.end) {
-            Object.assign(this, { recording, first, end, lines: [] });
+        const { edition } = recording, asked = { recording, edition, first, end };
+        if (Object.keys(asked).some(name => asked[name] !== this[name])) {
+            Object.assign(this, asked, { lines: [] });
             for (const shape of shapesOf(recording, first, end)) this.lines.push(...linesOf(shape));
         }
         return this.lines;
