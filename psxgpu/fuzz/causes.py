@@ -4,11 +4,11 @@ from __future__ import annotations
 from dataclasses import replace
 from typing import Dict, FrozenSet, List, NamedTuple, Optional
 
-from psxgpu.fuzz.conditions import BLENDING, DEPTHS, NO_CONDITIONS
+from psxgpu.fuzz.conditions import BLENDING, DEPTHS, INCIDENTAL, NO_CONDITIONS
 from psxgpu.fuzz.kinds import READS, STATUS, Kind, sentence
 from psxgpu.fuzz.rules import Samples
 from psxgpu.packets.grammar import COPY, LINE, LOAD, POLYGON, RECTANGLE
-from psxgpu.players.looks import OUTSIDE, similar
+from psxgpu.players.looks import OUTSIDE, SHAPES, similar
 
 # What packets of several names share: one cause has the same condition in all of them.
 TEXTURES = frozenset(['window', 'a window mask with a hole', 'a window mask X from 16', 'a window mask Y from 16',
@@ -60,19 +60,31 @@ def common_rule(one: Kind, other: Kind, samples: Samples) -> Optional[Facts]:
     condition or the smallest capture of one has all that the other needs. Of two packets, if one needs all that the
     other needs and this is about what both packets have."""
     both = one.rule & other.rule
-    is_alike = other.look in similar(one.look)
     if one.name != other.name:
-        is_case = both in (one.rule, other.rule) and not both.isdisjoint(shared(one.name, other.name))
-        return both if is_case else None
+        is_shared = both in (one.rule, other.rule) and not both.isdisjoint(shared(one.name, other.name))
+        return both if is_shared else None
     if OUTSIDE in (one.look, other.look):
         return outside_rule(one, other)
-    if not one.rule or not other.rule:
-        rule = one.rule | other.rule
-        return both if is_alike and (not rule or not samples.is_lifted(one.name, one.look, rule)) else None
-    if both in (one.rule, other.rule) or is_alike and both - GENERAL:
+    is_alike = other.look in similar(one.look)
+    if both in (one.rule, other.rule):
+        return both if is_case(one, other, samples) else None
+    if not is_alike:
+        return None
+    if any(fact not in GENERAL and not fact.startswith(INCIDENTAL) for fact in both):
         return both
-    cases = [a.rule for a, b in ((one, other), (other, one)) if a.rule - NO_CONDITIONS and a.rule <= frozenset(b.seed)]
-    return cases[0] if is_alike and cases else None
+    return next((a.rule for a, b in ((one, other), (other, one))
+                 if a.rule - NO_CONDITIONS and a.rule <= frozenset(b.seed)), None)
+
+
+def is_case(one: Kind, other: Kind, samples: Samples) -> bool:
+    """Returns whether of two kinds, one of which needs all that the other needs, one is a case of the other. If the
+    other is vague, they have to look alike, or both be about which cells are drawn; and what has the vague facts alone
+    has to differ nearly as often."""
+    general, special = sorted((one, other), key=lambda kind: len(kind.rule))
+    if not general.is_vague:
+        return True
+    is_alike = special.look in similar(general.look) or special.is_vague and {one.look, other.look} <= {*SHAPES}
+    return is_alike and not samples.is_apart(special.name, special.look, general.rule, special.rule)
 
 
 def causes(kinds: Dict[str, Kind], samples: Samples) -> List[Cause]:

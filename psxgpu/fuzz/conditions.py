@@ -21,6 +21,11 @@ Facts = FrozenSet[str]
 DRAWN = (POLYGON, LINE, RECTANGLE)
 EARLIER = 'an earlier packet'           # the experiment has more than one that draws
 NO_CONDITIONS = frozenset([*FEATURES, EARLIER])
+# Features that whole classes of packets have: what needs no other fact has no condition.
+VAGUE = frozenset(['quad', 'polyline', 'semi-transparency', 'factor', 'shades', 'texture', 'blend-mode', 'depth',
+                   'page'])
+# How conditions begin that are often there by chance.
+INCIDENTAL = 'width above', 'height above', 'an odd number', 'one c', 'sides off', 'longer than', 'a fixed', 'cut '
 SETTINGS = range(0xE1, 0xE7)
 BLENDING = 'blending B/2+F/2', 'blending B+F', 'blending B-F', 'blending B+F/4'
 DEPTHS = '4-bit texels', '8-bit texels', '15-bit texels', 'depth 3'

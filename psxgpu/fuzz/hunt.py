@@ -58,7 +58,7 @@ class Hunt:
     def is_known(self, experiment: Experiment) -> bool:
         """Returns whether an experiment has all that a frequent kind needs, in whatever way it may differ."""
         name, facts = name_of(experiment[-1]), facts_of(experiment)
-        return any(kind.name == name and kind.rule and kind.rule <= facts and self.seen[key] >= SURE
+        return any(kind.name == name and not kind.is_vague and kind.rule <= facts and self.seen[key] >= SURE
                    for key, kind in self.store.kinds.items())
 
     def batch(self) -> Iterator[Experiment]:
@@ -119,8 +119,8 @@ class Hunt:
         return [New(one, facts, look) for look in sorted(looks)]
 
     def parted(self, found: Sequence[New]) -> Tuple[List[New], List[New]]:
-        """Counts differences that a kind explains. Returns those that none explains, and those that one without a
-        condition does: another cause may be hidden in it."""
+        """Counts differences that a kind explains. Returns those that none explains, and those that a vague one does:
+        another cause may be hidden in it."""
         news, known = [], []    # type: List[New], List[New]
         for new in found:
             key = self.explaining(name_of(new.experiment[-1]), new.facts, new.look)
@@ -128,7 +128,7 @@ class Hunt:
                 news.append(new)
                 continue
             self.seen[key] += 1
-            if not self.store.kinds[key].rule:
+            if self.store.kinds[key].is_vague:
                 known.append(new)
         return news, known
 
@@ -157,10 +157,10 @@ class Hunt:
         return rule
 
     def has(self, name: str, rule: Facts, look: str) -> bool:
-        """Returns whether a kind needs no more than a rule. One without a condition is another one than those that
-        differ far more often."""
+        """Returns whether a kind needs no more than a rule. A vague one is another one than those that differ far more
+        often."""
         return any(kind.explains(name, rule, look)
-                   and (kind.rule or not rule or not self.samples.is_lifted(name, look, rule))
+                   and not (kind.is_vague and self.samples.is_apart(name, look, kind.rule, rule))
                    for kind in self.store.kinds.values())
 
     def add(self, new: New, needs: Facts) -> None:

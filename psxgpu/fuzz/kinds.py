@@ -6,7 +6,7 @@ import os
 from dataclasses import asdict, dataclass, field
 from typing import Any, Dict, FrozenSet, List, Optional, Sequence
 
-from psxgpu.fuzz.conditions import NO_CONDITIONS, facts_of, label
+from psxgpu.fuzz.conditions import NO_CONDITIONS, VAGUE, facts_of, label
 from psxgpu.fuzz.rules import Samples
 from psxgpu.output import Content, Folder, write_several
 from psxgpu.packets.deciders import Decision, decision
@@ -54,6 +54,11 @@ class Kind:
         return frozenset(self.needs)
 
     @property
+    def is_vague(self) -> bool:
+        """Whether it needs no fact but features of whole classes."""
+        return self.rule <= VAGUE
+
+    @property
     def decision(self) -> Decision:
         """Who decides."""
         return decision(self.name, self.needs)
@@ -64,9 +69,9 @@ class Kind:
         return sentence(self.label, self.needs, self.look)
 
     def explains(self, name: str, facts: Facts, look: str) -> bool:
-        """Returns whether a difference is of this kind: it has all that the kind needs. Without a condition, it looks
-        like it, too."""
-        return self.name == name and self.rule <= facts and (bool(self.rule) or look in similar(self.look))
+        """Returns whether a difference is of this kind: it has all that the kind needs. If that is vague, it looks like
+        it, too."""
+        return self.name == name and self.rule <= facts and (not self.is_vague or look in similar(self.look))
 
 
 def sentence(label: str, needs: Sequence[str], look: str) -> str:

@@ -8,18 +8,16 @@ import itertools
 from collections import Counter
 from typing import Dict, FrozenSet, Iterable, Iterator, List, NamedTuple, Optional, Sequence
 
-from psxgpu.fuzz.conditions import EARLIER, NO_CONDITIONS, drawing, facts_of
+from psxgpu.fuzz.conditions import EARLIER, INCIDENTAL, NO_CONDITIONS, drawing, facts_of
 from psxgpu.fuzz.making import MOST_CELLS, Maker
 from psxgpu.players.bench import Bench, Experiment, cells_of
 from psxgpu.players.looks import similar
 from psxgpu.reduce.features import FEATURES, active, name_of
 
 FRESH, PAIRS = 96, 10           # experiments around another one; those that are tried without a feature
-LEAST, SIDE, TRIES = 8, 16, 400     # experiments that lack a condition, and how many are made to get them
+LEAST, SIDE, TRIES = 8, 16, 600     # experiments that lack a condition, and how many are made to get them
 STILL, APART = 0.34, 0.34       # shares of those that differ without a feature, and without a condition
-# How conditions begin that are often there by chance; how much these count, and the share for them.
-INCIDENTAL = 'width above', 'height above', 'an odd', 'sides off', 'longer than', 'a fixed', 'cut '
-CHANCE, FAR_APART = 0.7, 0.1
+CHANCE, FAR_APART = 0.7, 0.1    # how much a condition counts that may be there by chance, and the share for it
 Facts = FrozenSet[str]
 
 
@@ -106,6 +104,8 @@ class Nearby:
             if chosen <= has and any(lacking[fact] < SIDE for fact in facts - has):
                 lacking.update(facts - has)
                 found.append(one)
+            if all(lacking[fact] >= SIDE for fact in facts):
+                break
         self.play(found)
 
     def seen(self, chosen: Facts) -> List[Seen]:

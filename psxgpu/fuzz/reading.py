@@ -3,7 +3,7 @@ from __future__ import annotations
 
 import tempfile
 from collections import Counter
-from typing import Dict, FrozenSet, Iterator, List, NamedTuple, Optional, Sequence, Set, Tuple
+from typing import FrozenSet, Iterator, List, NamedTuple, Optional, Sequence, Set, Tuple
 
 from psxgpu.command import ToolError
 from psxgpu.fuzz.conditions import transfer_facts
@@ -76,6 +76,8 @@ def facts_of(records: Sequence[Record]) -> FrozenSet[str]:
             out |= transfer_facts(STORE, words) & STORES if text == 'a store' else set()
     if is_open or left > 0 and records[-1][0] == STAT:
         out = out - {'a store', 'an odd number of cells'} | {'an open store'}
+    if records[-1][0] == STAT:
+        out -= {'an odd number of cells'}       # which matters in what is read
     return frozenset(out or {'nothing before it'})
 
 

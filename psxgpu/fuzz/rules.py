@@ -7,7 +7,7 @@ from typing import Dict, FrozenSet, Iterable, List, Tuple
 
 from psxgpu.players.looks import similar
 
-LIFTED, ENOUGH = 2.5, 8         # how much more often, and how many are needed to say so
+APART, ENOUGH = 0.34, 8         # how much less often the others differ, and how many are needed to say so
 Facts = FrozenSet[str]
 ALL = ''                        # in the place of a look: every experiment
 
@@ -47,13 +47,16 @@ class Samples:
         mask = self.mask(rule)
         return sum(count for one, count in self.seen[name, look].items() if one & mask == mask)
 
-    def share(self, name: str, look: str, rule: Facts) -> float:
-        """Returns the share of the experiments with all facts of a rule that differ in such a way."""
-        differ = sum(self.count(name, one, rule) for one in similar(look))
-        return differ / max(1, self.count(name, ALL, rule))
+    def differing(self, name: str, look: str, rule: Facts) -> int:
+        """Returns how many experiments with all facts of a rule differ in such a way."""
+        return sum(self.count(name, one, rule) for one in similar(look))
 
-    def is_lifted(self, name: str, look: str, rule: Facts) -> bool:
-        """Returns whether experiments with all facts of a rule differ far more often than all of this packet."""
-        if self.count(name, ALL, rule) < ENOUGH:
+    def is_apart(self, name: str, look: str, general: Facts, special: Facts) -> bool:
+        """Returns whether experiments with all facts of a special rule differ far more often than the others of the
+        general rule, which has some of these facts. False if too few were seen."""
+        inside = self.count(name, ALL, special)
+        outside = self.count(name, ALL, general) - inside
+        if min(inside, outside) < ENOUGH:
             return False
-        return self.share(name, look, rule) >= LIFTED * self.share(name, look, frozenset())
+        some, others = self.differing(name, look, special), self.differing(name, look, general)
+        return (others - some) * inside <= APART * some * outside

@@ -61,17 +61,19 @@ class Parts(unittest.TestCase):
         self.assertIsNone(most_telling(few, ['an even U']))
 
     def test_samples(self):
-        """Of 100 polygons 10 differ at their edges, and 9 of the 10 wide ones: far more than of all."""
+        """Of 100 polygons 10 differ at their edges: 9 of the 10 wide ones, and 1 of the 90 others."""
         samples = Samples()
         for k in range(100):
-            facts = frozenset(['wider than 1023'] if k < 10 else ['dither'])
+            facts = frozenset(['wider than 1023'] if k < 10 else ['dither'] if k < 50 else [])
             samples.add('polygon', facts, [EDGES] if k < 9 or k == 50 else [])
         again = Samples()
         again.take(samples.as_list())
         for one in (samples, again):
-            self.assertEqual(one.share('polygon', EDGES, frozenset()), 0.1)
-            self.assertTrue(one.is_lifted('polygon', EDGES, frozenset(['wider than 1023'])))
-            self.assertFalse(one.is_lifted('polygon', EDGES, frozenset(['dither'])))
+            self.assertEqual(one.count('polygon', EDGES, frozenset()), 10)
+            self.assertTrue(one.is_apart('polygon', EDGES, frozenset(), frozenset(['wider than 1023'])))
+            self.assertFalse(one.is_apart('polygon', EDGES, frozenset(), frozenset(['dither'])))
+        kinds = {'a': kind('polygon', []), 'b': kind('polygon', ['wider than 1023']), 'c': kind('polygon', ['dither'])}
+        self.assertEqual(sorted(sorted(cause.keys) for cause in causes(kinds, samples)), [['a', 'c'], ['b']])
 
     def test_causes(self):
         """A kind that needs more than another one is a case of it; so is the same setting in another packet, or what
