@@ -29,7 +29,7 @@ import time
 from typing import Iterator, List
 
 from psxgpu.command import DIFFERENT, SAME, ToolError, decimal, reading
-from psxgpu.fuzz.causes import causes, merged_by
+from psxgpu.fuzz.causes import causes
 from psxgpu.fuzz.cover import cover
 from psxgpu.fuzz.hunt import Hunt, ground_of
 from psxgpu.fuzz.kinds import KINDS, Store, as_json, read_samples
@@ -129,7 +129,7 @@ def working(words: argparse.Namespace, seeds: List[int]) -> Iterator[None]:
 def report_of(path: str) -> Report:
     """Returns the report of a folder."""
     store = Store(path, MAKER)
-    return Report(store, causes(store.kinds, merged_by(read_samples(store))))
+    return Report(store, causes(store.kinds, read_samples(store)))
 
 
 def join(folders: List[str], store: Store) -> None:
@@ -147,7 +147,7 @@ def join(folders: List[str], store: Store) -> None:
 
 
 def contents(path: str, number: int) -> bytes:
-    """Returns the bytes of a file. In the counts of a worker, the names of kinds begin with the number of the folder."""
+    """Returns the bytes of a file. In the counts of a worker, names of kinds begin with the number of the folder."""
     with open(path, 'rb') as file:
         data = file.read()
     if not os.path.basename(path).startswith(COUNTS):

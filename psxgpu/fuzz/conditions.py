@@ -3,19 +3,29 @@
 Both together are its facts. A kind of difference is described by the facts that it needs."""
 from __future__ import annotations
 
+from functools import lru_cache
+from math import gcd
 from typing import Dict, FrozenSet, Iterable, List, Sequence, Set, Tuple
 
 from psxgpu.packets.grammar import (COPY, FILL, LINE, LOAD, POLYGON, POLYLINE, QUAD, RECTANGLE, SEMI, SHADED, SIZE_CODE,
                                     TEXTURED, cells_of)
 from psxgpu.packets.known import Packet, has_colors, is_far, is_scaled, is_shaded_line, is_sloped
-from psxgpu.packets.parts import line_parts, polygon_parts, rectangle_parts, signed, texcoord_of
+from psxgpu.packets.parts import line_parts, polygon_parts, rectangle_parts, signed, texcoord_of, vertex_of
 from psxgpu.players.bench import Experiment, Words, registers_of
-from psxgpu.reduce.features import active, name_of
+from psxgpu.reduce.features import FEATURES, active, name_of
+from psxgpu.reduce.plainer import segments
+from psxgpu.reduce.units import Unit
 
 Registers = Dict[int, int]
 Facts = FrozenSet[str]
 DRAWN = (POLYGON, LINE, RECTANGLE)
 EARLIER = 'an earlier packet'           # the experiment has more than one that draws
+NO_CONDITIONS = frozenset([*FEATURES, EARLIER])
+# Features that whole classes of packets have: what needs no other fact has no condition.
+VAGUE = frozenset(['quad', 'polyline', 'semi-transparency', 'factor', 'shades', 'texture', 'blend-mode', 'depth',
+                   'page'])
+# How conditions begin that are often there by chance.
+INCIDENTAL = 'width above', 'height above', 'an odd number', 'one c', 'sides off', 'longer than', 'a fixed', 'cut '
 SETTINGS = range(0xE1, 0xE7)
 BLENDING = 'blending B/2+F/2', 'blending B+F', 'blending B-F', 'blending B+F/4'
 DEPTHS = '4-bit texels', '8-bit texels', '15-bit texels', 'depth 3'
@@ -73,15 +83,20 @@ def is_crossed(points: Sequence[Tuple[int, int]]) -> bool:
     return sides[0] * sides[1] > 0
 
 
-def segment(words: Words) -> Words:
-    """Returns the first segment of a polyline as a line."""
-    return (words[0] & ~(POLYLINE << 24), *words[1:4 if words[0] >> 24 & SHADED else 3])
+def is_tied(dx: int, dy: int) -> bool:
+    """Returns whether a point of a line is halfway between two cells."""
+    longer, common = max(abs(dx), abs(dy)), gcd(dx, dy)
+    return bool(common) and longer // common % 2 == 0
 
 
 def line_facts(packet: Packet) -> Set[str]:
-    """Returns facts about a line, or the first segment of a polyline."""
+    """Returns facts about a line, or about any segment of a polyline."""
+    if packet.words[0] >> 24 & POLYLINE:
+        lines = (packet._replace(words=unit.words) for unit in segments(Unit(LINE, tuple(packet.words))))
+        return set().union(*map(line_facts, lines))
     (ax, ay), (bx, by) = line_parts(packet.words)[0]
     return holding({'sloped': is_sloped(packet), 'one point': (ax, ay) == (bx, by), 'to the left': bx < ax,
+                    'a tie': is_tied(bx - ax, by - ay), 'bit 26 of the opcode': bool(packet.words[0] >> 26 & 1),
                     'upward': by < ay, 'steep': abs(by - ay) > abs(bx - ax), 'longer than a cell': (ax, ay) != (bx, by),
                     'several colours': is_shaded_line(packet)})
 
@@ -95,8 +110,8 @@ def drawn_facts(packet: Packet) -> Set[str]:
     elif name == POLYGON:
         points, out = polygon_parts(words)[0], polygon_facts(packet)
     else:
-        packet = packet._replace(words=segment(words))
-        points, out = line_parts(packet.words)[0], line_facts(packet)
+        step, end = 2 if packet.has(SHADED) else 1, -1 if packet.has(POLYLINE) else None
+        points, out = list(map(vertex_of, words[1:end:step])), line_facts(packet)
     ox, oy = signed(registers[0xE5]), signed(registers[0xE5] >> 11)
     xs, ys = [x + ox for x, _ in points], [y + oy for _, y in points]
     left, top, right, bottom = (registers[op] >> shift & 0x3FF for op in (0xE3, 0xE4) for shift in (0, 10))
@@ -179,6 +194,7 @@ def drawing(experiment: Iterable[Words]) -> List[Words]:
     return [packet for packet in experiment if packet[0] >> 24 not in SETTINGS]
 
 
+@lru_cache(4096)
 def facts_of(experiment: Experiment) -> Facts:
     """Returns all facts about an experiment: features, and conditions of its last packet."""
     settings = [packet for packet in experiment if packet[0] >> 24 in SETTINGS]

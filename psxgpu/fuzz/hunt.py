@@ -8,23 +8,19 @@ from typing import Any, Dict, FrozenSet, Iterator, List, NamedTuple, Optional, S
 
 from psxgpu.fuzz.conditions import drawing, facts_of, label
 from psxgpu.fuzz.kinds import KEPT, MOST_WORDS, Kind, Store, kind_of
-from psxgpu.fuzz.making import EDGES, Maker, packed
-from psxgpu.fuzz.reducing import processor_time, reduce_kind
+from psxgpu.fuzz.making import MOST_CELLS, Maker, packed
+from psxgpu.fuzz.nearby import Nearby
+from psxgpu.fuzz.reducing import Found, processor_time, reduce_kind
 from psxgpu.fuzz.rules import Samples
 from psxgpu.packets.generated import background
-
 from psxgpu.players.bench import Bench, Experiment, cells_of, how_lost
 from psxgpu.players.looks import LOST, OUTSIDE
-from psxgpu.reduce.features import FEATURES, active, name_of
-from psxgpu.reduce.layout import fields_of, value_of, with_value
-from psxgpu.reduce.units import Unit
+from psxgpu.reduce.features import name_of
 
 BATCH, TRIES, SPARED = 48, 8, 0.05      # experiments in a run; tries to make an unknown one; share of known ones
-SMALLEST = 3                            # how much a reduced capture counts in finding a rule
 STRAY, LOOKED_INTO = 0.2, 2             # batches in which dumps are compared; new differences of one batch
-MOST_CELLS, LARGE = 20000, 0.02         # cells that experiments may change; the share of those that may change more
-MOST_NEAR = 40                          # experiments around a new difference
-REFINED = 25                            # batches after which rules are found anew
+HIDDEN = 0.25                           # batches in which a difference that seems known is looked into
+LARGE = 0.02                            # share of the experiments that may change more than MOST_CELLS
 MOST_TRIED = 3                          # reductions of what cannot be shown alone
 SURE = 12                               # how often a kind is seen until it is seldom made again
 Facts = FrozenSet[str]
@@ -62,7 +58,7 @@ class Hunt:
     def is_known(self, experiment: Experiment) -> bool:
         """Returns whether an experiment has all that a frequent kind needs, in whatever way it may differ."""
         name, facts = name_of(experiment[-1]), facts_of(experiment)
-        return any(kind.name == name and kind.rule and kind.rule <= facts and self.seen[key] >= SURE
+        return any(kind.name == name and not kind.is_vague and kind.rule <= facts and self.seen[key] >= SURE
                    for key, kind in self.store.kinds.items())
 
     def batch(self) -> Iterator[Experiment]:
@@ -89,12 +85,11 @@ class Hunt:
             if not verdict.differs:
                 self.samples.add(name_of(one[-1]), facts_of(one), ())
                 self.maker.keep(one)
-        news = [new for one, looks in self.confirmed(found) for new in self.taken(one, looks)]
+        news, known = self.parted([new for one, looks in self.confirmed(found) for new in self.taken(one, looks)])
         for new in self.chosen(news):
             self.look_into(new)
-        if self.counts['batches'] % REFINED == 0:
-            for kind in self.store.kinds.values():
-                self.refine(kind)
+        if known and self.random.random() < HIDDEN:
+            self.look_into(self.random.choice(known))
 
     def stray(self, experiments: Sequence[Experiment]) -> List[Differing]:
         """Returns the experiment of the last batch that changed cells outside of its boxes, if there is one."""
@@ -117,16 +112,25 @@ class Hunt:
         found = [(part, verdict.looks) for part, verdict in zip(alone, self.bench.judge(alone)) if verdict.differs]
         yield found[0] if found else (one, looks)
 
-    def taken(self, one: Experiment, looks: FrozenSet[str]) -> Iterator[New]:
-        """Counts an experiment that differs. Yields what no kind explains."""
+    def taken(self, one: Experiment, looks: FrozenSet[str]) -> List[New]:
+        """Adds an experiment that differs to what was seen. Returns its differences."""
         name, facts = name_of(one[-1]), facts_of(one)
         self.samples.add(name, facts, looks)
-        for look in sorted(looks):
-            key = self.explaining(name, facts, look)
-            if key:
-                self.seen[key] += 1
-            elif not any(kind.name == name and kind.rule and kind.rule <= facts for kind in self.store.kinds.values()):
-                yield New(one, facts, look)
+        return [New(one, facts, look) for look in sorted(looks)]
+
+    def parted(self, found: Sequence[New]) -> Tuple[List[New], List[New]]:
+        """Counts differences that a kind explains. Returns those that none explains, and those that a vague one does:
+        another cause may be hidden in it."""
+        news, known = [], []    # type: List[New], List[New]
+        for new in found:
+            key = self.explaining(name_of(new.experiment[-1]), new.facts, new.look)
+            if not key:
+                news.append(new)
+                continue
+            self.seen[key] += 1
+            if self.store.kinds[key].is_vague:
+                known.append(new)
+        return news, known
 
     def chosen(self, news: List[New]) -> List[New]:
         """Returns a few new differences, the simplest of each name and look."""
@@ -138,84 +142,65 @@ class Hunt:
         return [*first.values()][:LOOKED_INTO]
 
     def look_into(self, new: New) -> None:
-        """Finds the rule of a new difference by experiments around it, and reduces it."""
+        """Finds what a new difference needs, by experiments around it. If no kind needs that, reduces it."""
+        needs = frozenset() if new.look == OUTSIDE else self.needs(new.experiment, new.look)
         name = name_of(new.experiment[-1])
-        around = list(self.around(new.experiment))
-        for one, verdict in zip(around, self.bench.judge(around)):
-            self.samples.add(name_of(one[-1]), facts_of(one), verdict.looks)
-        self.counts['around'] += len(around)
-        if self.explaining(name, new.facts, new.look):
-            return
-        explained = [kind.rule for kind in self.store.kinds.values() if kind.name == name and kind.look == new.look]
-        needs = self.samples.rule(name, new.look, new.facts, explained)
-        if self.tried[name, new.look, needs] < MOST_TRIED:
+        if not self.has(name, needs, new.look) and self.tried[name, new.look, needs] < MOST_TRIED:
             self.tried[name, new.look, needs] += 1
             self.add(new, needs)
 
-    def around(self, one: Experiment) -> Iterator[Experiment]:
-        """Yields the experiment without each feature, without earlier packets, and with other numbers."""
-        for feature in active(one):
-            yield tuple(map(FEATURES[feature], one))
-        drawn = drawing(one)
-        if len(drawn) > 1:
-            yield (*one[:len(one) - len(drawn)], drawn[-1])
-        unit = Unit(name_of(one[-1]), one[-1])
-        places = list(fields_of(unit))
-        self.random.shuffle(places)
-        for place in places[:MOST_NEAR // 4]:
-            value = value_of(unit.words[place[0]], place[1], place[2])
-            for other in {value + 1, value ^ 1, value // 2, self.random.choice(EDGES)} - {value}:
-                yield (*one[:-1], with_value(unit, place, other).words)
+    def needs(self, one: Experiment, look: str) -> Facts:
+        """Returns the facts that an experiment needs in order to differ with a look."""
+        near = Nearby(self.bench, self.maker, one, look)
+        rule = near.rule()
+        self.counts['around'] += len(near.differs)
+        return rule
+
+    def has(self, name: str, rule: Facts, look: str) -> bool:
+        """Returns whether a kind needs no more than a rule. A vague one is another one than those that differ far more
+        often."""
+        return any(kind.explains(name, rule, look)
+                   and not (kind.is_vague and self.samples.is_apart(name, look, kind.rule, rule))
+                   for kind in self.store.kinds.values())
 
     def add(self, new: New, needs: Facts) -> None:
         """Reduces a new difference and keeps it as a kind."""
         begin = self.time
         self.counts['reductions'] += 1
-        if new.look == OUTSIDE or self.is_lost(new):
+        if new.look in (OUTSIDE, LOST):
             kind, files = kind_of(new.experiment, new.look, needs), []  # type: Kind, List[Any]
-            kind.lines = [how_lost(self.bench, new.experiment)] if new.look != OUTSIDE else []
+            kind.lines = [how_lost(self.bench, new.experiment)] if new.look == LOST else []
         else:
             found = reduce_kind(self.bench, new.experiment, new.look, needs)
-            if found is None:
-                self.counts['not shown alone'] += 1
+            is_last = self.tried[name_of(new.experiment[-1]), new.look, needs] >= MOST_TRIED
+            missing = self.missing(found, is_last)
+            self.counts.update([missing] if missing else [])
+            if not found or missing:
                 return
-            kind, files = found
-            if kind.words > MOST_WORDS and self.tried[kind.name, new.look, needs] < MOST_TRIED:
-                self.counts['large'] += 1       # a simpler one may come
-                return
-        self.learn(kind)
+            kind, files = found[:2]
         kind.found = dict(seconds=self.time, captures=self.counts['captures'], reduced=round(self.time - begin, 1))
         key = '%s-%d-%d' % (kind.label, self.seed, len(self.store.kinds) + 1)
         path = self.store.path('kinds/' + key)
         self.store.put(key, kind, [file._replace(path=path + os.path.splitext(file.path)[1]) for file in files])
         self.seen[key] += 1
 
-    def learn(self, kind: Kind) -> None:
-        """Looks around the smallest capture of a kind, on the ground, and finds its rule anew."""
-        small = packed([tuple(int(word, 16) for word in packet.split()) for packet in kind.packets
-                        if packet.split()[-1] != '..'])
-        if not drawing(small) or kind.look in (OUTSIDE, LOST) or name_of(small[-1]) != kind.name:
-            return
-        facts = facts_of(small)
-        self.samples.add(kind.name, facts, [kind.look] * SMALLEST)
-        around = [small, *self.around(small)]
-        verdicts = self.bench.judge(around)
-        for one, verdict in zip(around, verdicts):
-            self.samples.add(name_of(one[-1]), facts_of(one), verdict.looks)
-        if verdicts[0].differs:     # else it does so on other cells alone
-            kind.needs = [feature for feature, verdict in zip(active(small), verdicts[1:]) if not verdict.differs]
-        kind.seed = sorted(facts)
-        self.refine(kind)
+    def missing(self, found: Optional[Found], is_last: bool) -> str:
+        """Returns why what was reduced is no new kind; nothing if it is one, whose facts are then found."""
+        if found is None:
+            return 'not shown alone'
+        kind, _, small = found
+        if kind.words > MOST_WORDS and not is_last:
+            return 'large'          # a simpler one may come
+        return '' if self.learn(kind, packed(small)) else 'again'
 
-    def refine(self, kind: Kind) -> None:
-        """Finds the rule of a kind anew, from all that was seen since."""
-        found = self.samples.rule(kind.name, kind.look, frozenset(kind.seed))
-        if found or not kind.needs:
-            kind.needs = sorted(found)
-
-    def is_lost(self, new: New) -> bool:
-        """Returns whether their player breaks down at it."""
-        return new.look == LOST
+    def learn(self, kind: Kind, small: Experiment) -> bool:
+        """Finds what the smallest capture of a kind needs, on the ground. Returns whether no other kind needs that."""
+        looks = self.bench.judge([small])[0].looks
+        if looks:       # else it differs on other cells alone
+            kind.look = kind.look if kind.look in looks else min(looks)
+            kind.needs = sorted(self.needs(small, kind.look))
+        kind.seed = sorted(facts_of(small))
+        return not self.has(kind.name, kind.rule, kind.look)
 
     def save(self, is_last: bool = False) -> None:
         """Keeps the counts, and now and then what was seen."""

@@ -6,18 +6,31 @@ import os
 from dataclasses import asdict, dataclass, field
 from typing import Any, Dict, FrozenSet, List, Optional, Sequence
 
-from psxgpu.fuzz.conditions import EARLIER, facts_of, label
+from psxgpu.fuzz.conditions import NO_CONDITIONS, VAGUE, facts_of, label
 from psxgpu.fuzz.rules import Samples
 from psxgpu.output import Content, Folder, write_several
 from psxgpu.packets.deciders import Decision, decision
 from psxgpu.players.bench import Experiment
-from psxgpu.players.looks import OUTSIDE
-from psxgpu.reduce.features import FEATURES, name_of
+from psxgpu.players.looks import similar
+from psxgpu.reduce.features import name_of
 
 KINDS = 'kinds'
+STATUS, READS = 'status', 'reads'        # names of kinds that are no packets
 KEPT = 10                   # batches after which a worker keeps what it has seen
-MOST_WORDS = 1000           # of a capture; more are remarked
+MOST_WORDS = 30             # of a capture; more are remarked
 Facts = FrozenSet[str]
+TEXTS = {'unused-bits': 'bits that mean nothing', 'factor': 'a factor', 'texture': 'a texture', 'x-flip': 'X flip',
+         'y-flip': 'Y flip', 'display-bit': 'bit 10 of E1h', 'bit-11': 'bit 11 of E1h', 'blend-mode': 'a blending mode',
+         'depth': 'another depth', 'page': 'another page', 'window': 'a texture window',
+         'area-start': 'an area from another cell', 'area-end': 'an area to another cell', 'offset': 'a drawing offset',
+         'forced-mask': 'forced mask bits', 'tested-mask': 'tested mask bits'}
+# How a fact begins, and facts that it implies.
+IMPLIED = [(begin, ('texture', 'depth', 'page')) for begin in (
+    'a scaled', 'a page', 'a palette', 'U ', 'V ', 'an even U', 'a window', 'depth 3', '4-bit', '8-bit', '15-bit')] + [
+    ('several colours', ('shades',)), ('blending', ('semi-transparency', 'blend-mode')),
+    ('a sum beyond', ('offset',)), ('an offset', ('offset',)), ('a negative offset', ('offset', 'an offset Y')),
+    ('a window', ('window',)), ('a tie', ('sloped', 'longer than a cell')), ('steep', ('longer than a cell',)),
+    ('sloped', ('longer than a cell',)), ('it overlaps itself to', ('it overlaps itself',))]
 
 
 @dataclass
@@ -41,6 +54,11 @@ class Kind:
         return frozenset(self.needs)
 
     @property
+    def is_vague(self) -> bool:
+        """Whether it needs no fact but features of whole classes."""
+        return self.rule <= VAGUE
+
+    @property
     def decision(self) -> Decision:
         """Who decides."""
         return decision(self.name, self.needs)
@@ -48,14 +66,23 @@ class Kind:
     @property
     def sentence(self) -> str:
         """What differs, and when, in one sentence."""
-        settings = [fact for fact in self.needs if fact in FEATURES or fact == EARLIER]
-        numbers = [fact for fact in self.needs if fact not in settings]
-        text = self.label + (' with ' + ', '.join(settings) if settings else '')
-        return '%s%s: %s' % (text, ', if ' + ' and '.join(numbers) if numbers else '', self.look)
+        return sentence(self.label, self.needs, self.look)
 
     def explains(self, name: str, facts: Facts, look: str) -> bool:
-        """Returns whether a difference is of this kind."""
-        return self.name == name and self.rule <= facts and (self.look == look or OUTSIDE == look)
+        """Returns whether a difference is of this kind: it has all that the kind needs. If that is vague, it looks like
+        it, too."""
+        return self.name == name and self.rule <= facts and (not self.is_vague or look in similar(self.look))
+
+
+def sentence(label: str, needs: Sequence[str], look: str) -> str:
+    """Returns what differs, and when, in one sentence: features first, then conditions. What others imply is left
+    out."""
+    implied = {fact for one in needs for begin, facts in IMPLIED if one.startswith(begin) for fact in facts}
+    told = [fact for fact in needs if fact not in implied and fact not in label.split(', ')]
+    settings = [TEXTS.get(fact, fact) for fact in told if fact in NO_CONDITIONS]
+    numbers = [fact for fact in told if fact not in NO_CONDITIONS]
+    text = label + (' with ' + ' and '.join(settings) if settings else '')
+    return '%s%s: %s' % (text, ', if ' + ' and '.join(numbers) if numbers else '', look)
 
 
 def kind_of(experiment: Experiment, look: str, needs: Facts) -> Kind:

@@ -7,8 +7,8 @@ from typing import Callable, Dict, Iterator, List, Sequence, Tuple
 
 from psxgpu.fuzz.conditions import SETTINGS, label
 from psxgpu.packets.generated import CLASSES
-from psxgpu.packets.grammar import (COPY, FILL, LINE, LOAD, POLYGON, POLYLINE, RECTANGLE, SHADED, data_words,
-                                    ends_polyline, name_and_length)
+from psxgpu.packets.grammar import (COPY, FILL, LINE, LOAD, POLYGON, POLYLINE, RECTANGLE, SHADED, SIZE_CODE,
+                                    TEXTURED, data_words, ends_polyline, name_and_length)
 from psxgpu.packets.split import Splitter
 from psxgpu.players.bench import Experiment, Words
 from psxgpu.reduce.features import FEATURES, name_of
@@ -28,6 +28,7 @@ OPCODES: Dict[str, Sequence[int]] = {
     POLYGON: range(0x20, 0x40), LINE: range(0x40, 0x60), RECTANGLE: range(0x60, 0x80), FILL: (2,),
     COPY: (0x80,) * 12 + (0x81, 0x9F), LOAD: (0xA0,) * 18 + (0xA1, 0xBF)}
 MOST_KEPT, MOST_RECORDED = 40, 400
+MOST_CELLS = 20000          # that an experiment may change; few change more
 
 
 def packets_of(words: Sequence[int]) -> Iterator[Words]:
@@ -56,6 +57,11 @@ def packed(packets: Sequence[Words]) -> Experiment:
         else:
             drawn.append(words)
     return (*settings.values(), *drawn)
+
+
+def setting(experiment: Experiment, opcode: int) -> int:
+    """Returns the number of the last packet that sets a register."""
+    return max(at for at, words in enumerate(experiment) if words[0] >> 24 == opcode)
 
 
 class Maker:
@@ -138,48 +144,84 @@ class Maker:
             words += [r.getrandbits(32) for _ in range(data_words(words[2]))]
         return tuple(words)
 
-    def square(self, words: List[int], kinds: Sequence[str]) -> None:
-        """Gives a polygon sides on the axes, and a texel for each cell."""
+    def square(self, words: List[int], kinds: Sequence[str], step: float = 1) -> None:
+        """Gives a polygon sides on the axes, and `step` texels for each cell."""
         r, places = self.random, [at for at, kind in enumerate(kinds) if kind == 'vertex']
         x, y, u, v = r.randrange(300), r.randrange(200), r.randrange(200), r.randrange(200)
         w, h = r.choice(SMALL), r.choice(SMALL)
         for at, (dx, dy) in zip(places, ((0, 0), (w, 0), (0, h), (w, h))):
             words[at] = x + dx | y + dy << 16
             if at + 1 < len(words) and kinds[at + 1] == 'texcoord':
-                words[at + 1] = words[at + 1] & 0xFFFF0000 | u + dx | v + dy << 8
+                words[at + 1] = words[at + 1] & 0xFFFF0000 | u + int(dx * step) | v + int(dy * step) << 8
 
     def fresh(self) -> Experiment:
         """Returns an experiment that is made of no other one."""
         r, way = self.random, self.random.random()
         if way < 0.35:
             return packed(list(packets_of(CLASSES[r.choice(list(CLASSES))](r))))
+        if way > 0.95:
+            packet = self.packet(r.choice((RECTANGLE, RECTANGLE, POLYGON)))
+            return (*self.settings(), packet, self.source(packet), packet)
         one = (*self.settings(), self.packet(r.choice(list(OPCODES))))
-        if way > 0.95:      # its texture may have changed since it was drawn
-            change = fill(r.getrandbits(24), 512, 0, 511, 511)
-            return (*one, tuple(change), one[-1])
         return (*one, self.packet(r.choice(list(OPCODES)))) if way > 0.92 else one
+
+    def source(self, packet: Words) -> Words:
+        """Returns a fill of all texture pages that packets have, or a load into the palette of a textured one."""
+        r = self.random
+        if not packet[0] >> 24 & TEXTURED or r.random() < 0.5:
+            return tuple(fill(r.getrandbits(24), 512, 0, 511, 511))
+        x, y = packet[2] >> 16 & 63, packet[2] >> 22 & 511
+        return (0xA0000000, y << 16 | x * 16, 0x00010010, *(r.getrandbits(32) for _ in range(8)))
 
     def changed(self, old: Experiment) -> Experiment:
         """Returns an experiment with one change: a setting, a property, a feature, a bit of the mode, or a number."""
         r, out, last = self.random, list(old), old[-1]
-        way = r.randrange(6)
+        way = r.randrange(7)
         if way == 0:
-            at = r.randrange(6)
-            out[at] = self.settings()[at]
+            words = r.choice(self.settings())
+            out[setting(old, words[0] >> 24)] = words
         elif way == 1 and name_of(last) in (POLYGON, LINE, RECTANGLE):
-            out[-1] = (last[0] ^ r.choice((2,) if name_of(last) == LINE else (1, 2)) << 24, *last[1:])
+            out[-1] = (last[0] ^ r.choice((2, 4) if name_of(last) == LINE else (1, 2)) << 24, *last[1:])
         elif way == 2:
             out = list(map(FEATURES[r.choice(list(FEATURES))], old))
         elif way == 3:
-            out[0] = (old[0][0] ^ 1 << r.randrange(14),)
+            at = setting(old, 0xE1)
+            out[at] = (old[at][0] ^ 1 << r.randrange(14),)
+        elif way == 4:
+            out[-1] = self.regular(last)
         else:
             out[-1] = self.near(last)
         return tuple(out)
+
+    def regular(self, packet: Words) -> Words:
+        """Returns a polygon on the axes or of one colour, a line on an axis, a rectangle whose size is given in another
+        way, or another packet without bits above its fields."""
+        r, name, opcode, words = self.random, name_of(packet), packet[0] >> 24, list(packet)
+        kinds = layout(Unit(name, packet))
+        if name == RECTANGLE:
+            code = r.choice((0, 1, 2, 3)) << 3
+            words[0] = (opcode & ~SIZE_CODE | code) << 24 | words[0] & 0xFFFFFF
+            size = [] if code else [r.choice(SMALL) | r.choice(SMALL) << 16]
+            return (*words[:3 if opcode & TEXTURED else 2], *size)
+        if name == POLYGON and r.random() < 0.5:
+            self.square(words, kinds, r.choice((1, 1, 0.5)))
+        elif name == POLYGON or name == LINE and not opcode & POLYLINE and opcode & SHADED and r.random() < 0.5:
+            words = [words[0] & 0xFFFFFF | word & ~0xFFFFFF if kind == 'color' else word
+                     for kind, word in zip(kinds, words)]
+        elif name == LINE and not opcode & POLYLINE:
+            mask = r.choice((0xFFFF, 0xFFFF0000))
+            words[-1] = words[-1] & ~mask | words[1] & mask
+        elif name in (FILL, COPY, LOAD):
+            words[1:4] = [word & 0x1FF03FF for word in words[1:3 if name != COPY else 4]] + words[3:4] * (name == LOAD)
+        return tuple(words)
 
     def near(self, packet: Words) -> Words:
         """Returns a packet with another number."""
         r, unit = self.random, Unit(name_of(packet), packet)
         places = list(fields_of(unit))
+        if unit.name == LINE and unit.opcode & POLYLINE:
+            step = 2 if unit.opcode & SHADED else 1
+            places = [(at, shift, -11) for at in range(1, len(packet) - 1, step) for shift in (0, 16)]
         if not places:
             return packet
         at, shift, width = place = r.choice(places)

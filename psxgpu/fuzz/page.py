@@ -13,6 +13,7 @@ from psxgpu.fuzz.kinds import KINDS, MOST_WORDS, Store
 from psxgpu.output import Content, write_several
 from psxgpu.packets.deciders import SPX
 
+SHOWN = 4                   # packets in a line of the table
 FILES = '.capture', '.log', '.py', '.json'
 PAGE = '''<!doctype html>
 <html lang="en"><meta charset="utf-8"><title>%(name)s: kinds of differences</title><style>
@@ -65,9 +66,9 @@ class Report:
         out = ['%s: %s' % (counted(len(self.causes), 'kind'), self.about)]
         for cause in self.causes:
             kind = cause.kind
-            out += ['%5d  %s' % (self.often(cause), kind.sentence),
+            out += ['%5d  %s' % (self.often(cause), cause.sentence),
                     '       decided by %s; %s' % (kind.decision, tests_of(cause)),
-                    '       %s: %s' % (size_of(cause), ' / '.join(kind.packets[-2:]))]
+                    '       %s: %s' % (size_of(cause), ' / '.join(kind.packets[-SHOWN:]))]
         return out
 
     def row(self, cause: Cause) -> str:
@@ -78,9 +79,15 @@ class Report:
             if os.path.exists(self.store.path(name)):
                 links.append('<a href="%s">%s</a>' % (html.escape(name), ending[1:]))
         lines = [size_of(cause), *(kind.lines[1:] or kind.packets)]
-        return ROW % (self.often(cause), html.escape(kind.sentence), html.escape(tests_of(cause)),
+        return ROW % (self.often(cause), html.escape(cause.sentence), html.escape(tests_of(cause)) + self.others(cause),
                       html.escape(str(kind.decision)), html.escape('\n'.join(lines)), ' '.join(links),
                       self.picture(cause.key))
+
+    def others(self, cause: Cause) -> str:
+        """Returns the other kinds of a cause as a part of the page, with a link to the capture of each."""
+        others = [(html.escape(key), html.escape(self.store.kinds[key].sentence)) for key in cause.keys[1:]]
+        links = ['<a href="%s/%s.capture">%s</a>' % (KINDS, *pair) for pair in others]
+        return '<br>also seen as: ' + '; '.join(links) if links else ''
 
     def picture(self, key: str) -> str:
         """Returns the picture of a kind as a part of the page."""

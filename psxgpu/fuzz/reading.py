@@ -2,11 +2,13 @@
 from __future__ import annotations
 
 import tempfile
-from typing import Dict, FrozenSet, Iterator, List, NamedTuple, Optional, Sequence, Tuple
+from collections import Counter
+from typing import FrozenSet, Iterator, List, NamedTuple, Optional, Sequence, Set, Tuple
 
 from psxgpu.command import ToolError
+from psxgpu.fuzz.conditions import transfer_facts
 from psxgpu.fuzz.hunt import Hunt
-from psxgpu.fuzz.kinds import Kind
+from psxgpu.fuzz.kinds import READS, STATUS, Kind
 from psxgpu.packets.grammar import LINE, LOAD, POLYLINE, STORE, data_words, ends_polyline, name_and_length
 from psxgpu.players.trial_run import words_of
 from psxgpu.reduce.faults import WordsDiffer
@@ -16,9 +18,11 @@ from psxgpu.reduce.units import CONTROL, Record
 from psxgpu.stream import GP0, GP1, HEADS, KINDS, READ, STAT, encode
 
 SEQUENCES, MOST_REDUCED = 60, 2
-STATUS, READS = 'status', 'reads'
+ALL = 0xFFFFFFFF            # bits
 ENDS: Record = (GP1, 1, (0,))
 SETTINGS = 7                # the upper three bits of E0h to FFh
+STORES = frozenset(['width 0', 'height 0', 'an odd number of cells', 'size bits above its fields'])
+SIZES = (0x00000001, 0x00010000, 0x02010001, 0x00010401)      # of stores: 0, and with bits above the fields
 
 
 class New(NamedTuple):
@@ -28,26 +32,53 @@ class New(NamedTuple):
     facts: FrozenSet[str]
 
 
+def control_facts(word: int) -> Set[str]:
+    """Returns facts about a control word."""
+    opcode, value = word >> 24, word & 0xFFFFFF
+    if opcode >= 0x20:
+        return {'GP1 from 40h' if opcode >= 0x40 else 'GP1(20h..3Fh)'}
+    if opcode > 0x10:
+        return {'GP1(11h..1Fh)'}
+    if opcode < 0x10:
+        return {'GP1(%02Xh)' % opcode}
+    number = value & 15
+    asked = '2 to 5' if 2 <= number <= 5 else str(number) if number in (7, 8) else 'of nothing'
+    return {'GP1(10h) ' + asked} | ({'bits above the lowest four of GP1(10h)'} if value >> 4 else set())
+
+
+def packet_facts(words: Sequence[int]) -> Tuple[str, int]:
+    """Returns what words for GP0 are, and how many words a store that they open has."""
+    name, wanted = name_and_length(words[0])
+    if words[0] >> 29 == SETTINGS:
+        return 'E%Xh' % (words[0] >> 24 & 15), 0
+    if name == LINE and words[0] >> 24 & POLYLINE and not ends_polyline(words[-1]):
+        wanted = len(words) + 1
+    left = wanted - len(words) + (data_words(words[2]) if name == LOAD and len(words) > 2 else 0)
+    if left > 0:
+        return 'an unfinished load' if name == LOAD and len(words) > 2 else 'an unfinished packet', 0
+    return ('a store', data_words(words[2])) if name == STORE else (name, 0)
+
+
 def facts_of(records: Sequence[Record]) -> FrozenSet[str]:
-    """Returns what a sequence has: control words, and what is unfinished or read."""
-    out, left = set(), 0
+    """Returns what a sequence has: control words, packets, and what is unfinished."""
+    out: Set[str] = set()
+    left, is_open = 0, False        # words of a store, and whether another word comes before them
     for kind, count, words in records:
+        is_open |= left > 0 and kind in (GP0, GP1)
         if kind == GP1:
-            opcode = words[0] >> 24
-            out.add('GP1(%02Xh)' % opcode if opcode <= 0x10 else 'GP1(11h..)' if opcode < 0x20 else 'GP1 from 20h')
+            out |= control_facts(words[0])
+            left = left if words[0] >> 24 & 0x3F > 1 else 0
         elif kind == READ:
-            out.add('a read')
-        elif kind == GP0 and words[0] >> 29 == SETTINGS:
-            out.add('E%Xh' % (words[0] >> 24 & 15))
+            left -= count
         elif kind == GP0:
-            name, wanted = name_and_length(words[0])
-            if name == LINE and words[0] >> 24 & POLYLINE and not ends_polyline(words[-1]):
-                wanted = len(words) + 1
-            left = wanted - len(words) + (data_words(words[2]) if name == LOAD and len(words) > 2 else 0)
-            out.add('a store is open' if name == STORE and left <= 0 else
-                    'a load is open' if name == LOAD and len(words) > 2 and left > 0 else
-                    'a packet is not whole' if left > 0 else name)
-    return frozenset(out)
+            text, left = packet_facts(words)
+            out.add(text)
+            out |= transfer_facts(STORE, words) & STORES if text == 'a store' else set()
+    if is_open or left > 0 and records[-1][0] == STAT:
+        out = out - {'a store', 'an odd number of cells'} | {'an open store'}
+    if records[-1][0] == STAT:
+        out -= {'an odd number of cells'}       # which matters in what is read
+    return frozenset(out or {'nothing before it'})
 
 
 def bits_text(name: str, bits: int) -> str:
@@ -58,12 +89,29 @@ def bits_text(name: str, bits: int) -> str:
     return 'bit%s %s' % ('s' * (len(found) > 1), ', '.join(map(str, found)))
 
 
+def bits_of(look: str) -> int:
+    """Returns the bits of such a text; all of them if it names none."""
+    found = [int(word) for word in look.replace(',', ' ').split() if word.isdigit()]
+    return sum(1 << at for at in found) or ALL
+
+
+class BitsDiffer(WordsDiffer):
+    """A word that is read, or a status, differs in one of these bits."""
+
+    def __init__(self, wanted: int) -> None:
+        super().__init__()
+        self.wanted = wanted
+
+    def differs(self, ours: int, theirs: int) -> bool:
+        return bool((ours ^ theirs) & self.wanted)
+
+
 class Reading:
     """Searches with a hunt's players and folder."""
 
     def __init__(self, hunt: Hunt) -> None:
         self.hunt = hunt
-        self.tried: Dict[New, int] = {}
+        self.tried: Counter[New] = Counter()
 
     def sequence(self) -> List[Record]:
         """Returns a sequence that ends with a status."""
@@ -88,14 +136,30 @@ class Reading:
             yield GP0, cut, tuple(packet[:cut])
         elif way == 4:
             size = r.choice((1, 1, 2, 3, 5)) | r.choice((1, 1, 2, 3)) << 16
+            size = size if r.random() < 0.9 else r.choice(SIZES)
             yield GP0, 3, (0xC0000000, r.randrange(600) | r.randrange(400) << 16, size)
             yield READ, r.choice((data_words(size), r.randrange(1, data_words(size) + 2))), ()
-        elif r.random() < 0.5:      # the information of a setting
-            yield GP0, 1, (r.randrange(0xE2, 0xE6) << 24 | r.getrandbits(24),)
-            yield GP1, 1, (0x10000000 | r.randrange(16),)
-            yield READ, 1, ()
         else:
-            yield READ, r.randrange(1, 3), ()
+            yield from r.choice((self.setting, self.drawn, self.read))()
+
+    def read(self) -> Iterator[Record]:
+        """Yields reads of nothing."""
+        yield READ, self.hunt.random.randrange(1, 3), ()
+
+    def setting(self) -> Iterator[Record]:
+        """Yields a setting, the question for one, and a read."""
+        r = self.hunt.random
+        yield GP0, 1, (r.randrange(0xE2, 0xE6) << 24 | r.getrandbits(24),)
+        yield GP1, 1, (0x10000000 | r.randrange(16),)
+        yield READ, 1, ()
+
+    def drawn(self) -> Iterator[Record]:
+        """Yields a fill or a rectangle, and reads of its cells: in interlaced modes, and without an area."""
+        r = self.hunt.random
+        x, y, size = r.randrange(0, 64, 16), r.randrange(64), 16 | r.choice((1, 2, 3)) << 16
+        yield GP0, 3, (r.choice((0x02, 0x60)) << 24 | r.getrandbits(24), x | y << 16, size)
+        yield GP0, 3, (0xC0000000, x | y << 16, size)
+        yield READ, data_words(size), ()
 
     def step(self) -> None:
         """One batch of sequences."""
@@ -124,16 +188,22 @@ class Reading:
             if first and reduced < MOST_REDUCED:
                 reduced += self.look_into(records, *first)
 
+    def unknown(self, new: New) -> int:
+        """Returns the bits of a difference that no kind has. Counts one that all kinds together have."""
+        found = {key: kind for key, kind in self.hunt.store.kinds.items()
+                 if kind.name == new.name and kind.rule <= new.facts}
+        rest = new.bits
+        for kind in found.values():
+            rest &= ~bits_of(kind.look)
+        self.hunt.seen.update([*found][:1] if not rest else ())
+        return rest
+
     def look_into(self, records: List[Record], kind: int, bits: int) -> bool:
         """Counts a sequence that differs, or reduces it. Returns whether it was reduced."""
-        new = New(STATUS if kind == STAT else READS, bits if kind == STAT else 0, facts_of(records))
-        look = bits_text(new.name, new.bits)
-        for key, known in self.hunt.store.kinds.items():
-            if known.name == new.name and known.look == look and known.rule <= new.facts:
-                self.hunt.seen[key] += 1
-                return False
-        self.tried[new] = self.tried.get(new, 0) + 1
-        if self.tried[new] > 1:
+        new = New(STATUS if kind == STAT else READS, bits if kind == STAT else ALL, facts_of(records))
+        new = new._replace(bits=self.unknown(new))
+        self.tried[new] += 1
+        if not new.bits or self.tried[new] > 1:
             return False
         self.reduce(records, new)
         return True
@@ -142,39 +212,51 @@ class Reading:
         """Reduces a sequence alone, and keeps it as a kind."""
         hunt, begin = self.hunt, self.hunt.time
         hunt.counts['reductions'] += 1
-        found = self.reduced(records)
+        fault = BitsDiffer(new.bits)
+        found = self.reduced(self.plainer(records, fault), fault)
         if found is None:
             hunt.counts['not shown alone'] += 1
             return
         small = [record for unit in found.units for record in (unit.records or (
             (GP1 if unit.name == CONTROL else GP0, len(unit.words), unit.words),))]
-        facts, bits = facts_of(small), new.bits
-        new = new._replace(name=STATUS if small[-1][0] == STAT else READS)
+        name, facts, bits = STATUS if small[-1][0] == STAT else READS, facts_of(small), ALL
         words = next((line for line in found.differs if line.startswith('word')), '')
-        if new.name == STATUS and words:
+        if name == STATUS and words:
             a, b = (int(text.split()[-1], 16) for text in words.split(','))
             bits = a ^ b
-        look = bits_text(new.name, bits)
-        if any(one.name == new.name and one.look == look and one.rule <= facts for one in hunt.store.kinds.values()):
+        if not self.unknown(New(name, bits, facts)):
             return
+        look = bits_text(name, bits)
         texts = ['%s %s' % (KINDS[kind].lower(), ' '.join('%08x' % word for word in part[:12]))
                  for kind, _, part in small]
-        kind = Kind(new.name, new.name, look, sorted(facts), sorted(facts), found.words, texts, report_lines(found)[1:],
+        kind = Kind(name, name, look, sorted(facts), sorted(facts), found.words, texts, report_lines(found)[1:],
                     found=dict(seconds=hunt.time, captures=hunt.counts['captures'],
                                reduced=round(hunt.time - begin, 1)))
-        key = '%s-%d-%d' % (new.name, hunt.seed, len(hunt.store.kinds) + 1)
+        key = '%s-%d-%d' % (name, hunt.seed, len(hunt.store.kinds) + 1)
         path = hunt.store.path('kinds/' + key)
         hunt.store.put(key, kind, list(files_of(found, path, ['theirs: ' + hunt.bench.theirs.text])))
         hunt.seen[key] += 1
 
-    def reduced(self, records: List[Record]) -> Optional[Reduced]:
+    def plainer(self, records: List[Record], fault: BitsDiffer) -> List[Record]:
+        """Returns a sequence that differs, too, whose control words have as few bits as they can."""
+        bench = self.hunt.bench
+        for at, (kind, _, words) in enumerate(records):
+            for mask in (0xFF000000, 0xFF00000F) if kind == GP1 else ():
+                changed = [*records[:at], (kind, 1, (words[0] & mask,)), *records[at + 1:]]
+                data = HEADS[1] + b''.join(encode(*record) for record in changed) + bytes(4)
+                if fault.shows(bench.ours, bench.theirs, data, bench.seconds):
+                    records = changed
+                    break
+        return records
+
+    def reduced(self, records: List[Record], fault: BitsDiffer) -> Optional[Reduced]:
         """Returns the smallest capture of a sequence, or None if it does not differ alone."""
         bench = self.hunt.bench
         with tempfile.NamedTemporaryFile(prefix='psxgpu') as file:
             file.write(HEADS[1] + b''.join(encode(*record) for record in records) + bytes(4))
             file.flush()
             try:
-                with Job(bench.ours, bench.theirs, Wanted(WordsDiffer(), []), bench.seconds, 1) as job:
+                with Job(bench.ours, bench.theirs, Wanted(fault, []), bench.seconds, 1) as job:
                     return job.result(file.name, 'sequence')
             except ToolError:
                 return None

@@ -6,12 +6,12 @@ from typing import Any, Callable, Dict, FrozenSet, Iterable, List, Optional, Seq
 
 from psxgpu.errors import ToolError
 from psxgpu.fuzz.conditions import SETTINGS, drawing, facts_of
-from psxgpu.fuzz.kinds import Kind, kind_of
+from psxgpu.fuzz.kinds import MOST_WORDS, Kind, kind_of
 from psxgpu.fuzz.making import packed
 from psxgpu.output import Content
 from psxgpu.packets.grammar import LOAD
 from psxgpu.players.bench import Bench, DumpBench, Experiment, registers_of
-from psxgpu.players.looks import ALONE, BIT_15, COLOURS, EDGES, NOTHING, OTHERS, SHAPES, STEP, VALUES
+from psxgpu.players.looks import ALONE, BIT_15, COLOURS, EDGES, NOTHING, OTHERS, SHAPES, STEP, VALUES, similar
 from psxgpu.players.named import expect_dump
 from psxgpu.players.probes import END, HEAD
 from psxgpu.reduce.batches import BatchProber
@@ -26,6 +26,7 @@ from psxgpu.stream import GP0, encode
 
 MOST_PROBES, MOST_SECONDS = 900, 8.0        # of a reduction, in seconds of processor time
 MOST_LOADED = 60000         # cells of what a packet reads
+HEADER = 3                  # words of a load before its data
 # On cells of 0 what has other colours may also be another shape: the texel 0000h is not drawn.
 ALIKE: Dict[str, Sequence[str]] = {
     NOTHING: (NOTHING,), ALONE: (ALONE,), EDGES: (EDGES, OTHERS, NOTHING), OTHERS: (OTHERS, EDGES),
@@ -33,6 +34,7 @@ ALIKE: Dict[str, Sequence[str]] = {
     STEP: (STEP, NOTHING, ALONE, EDGES, OTHERS), COLOURS: (COLOURS, STEP, NOTHING, ALONE, EDGES, OTHERS)}
 READING = {'texture', 'tested-mask', 'semi-transparency'}
 Facts = FrozenSet[str]
+Found = Tuple[Kind, List[Content], Experiment]
 
 
 def processor_time() -> float:
@@ -107,6 +109,14 @@ def started(reducer: Reducer, bench: Bench, experiment: Experiment) -> bool:
     return len(drawn) == 1 and reducer.start([placed[0]._replace(events=1)], lambda events: bench.dump) is not None
 
 
+def cut_data(reducer: Reducer) -> None:
+    """Leaves out data words of a large load at the end, if the players differ before it is whole."""
+    unit = reducer.units[-1]
+    counts = [1 << k for k in range(unit.size.bit_length()) if 1 << k < unit.size - HEADER]
+    if unit.name == LOAD and unit.size > MOST_WORDS:
+        reducer.take([*reducer.units[:-1], unit.with_words(unit.words[:HEADER + count])] for count in counts)
+
+
 def shown(reducer: Reducer) -> Optional[Reduced]:
     """Returns what a reducer found; None if a player does not write the same again, so that dumps do not show it."""
     try:
@@ -115,12 +125,16 @@ def shown(reducer: Reducer) -> Optional[Reduced]:
         return None
 
 
-def reduce_kind(bench: Bench, experiment: Experiment, look: str, needs: Facts) -> Optional[Tuple[Kind, List[Content]]]:
-    """Returns the kind of an experiment, and the files of its smallest capture; None if it is not shown alone."""
-    for chosen in (needs, needs - set(FEATURES)):       # other differences of the same packet may hinder the pair
+def reduce_kind(bench: Bench, experiment: Experiment, look: str, needs: Facts) -> Optional[Found]:
+    """Returns the kind of an experiment, and the files and packets of its smallest capture; None if it is not shown
+    alone. It may look otherwise on cells of 0. If it then looks otherwise on the ground, it was another difference. So
+    it has to look the same. At last it is no pair: other differences of the packet may hinder that."""
+    for is_strict, chosen in ((False, needs), (True, needs), (False, needs - set(FEATURES))):
         prober = KindProber(bench, look, needs)
         prober.name = name_of(experiment[-1])
-        if READING & facts_of(experiment):      # on other cells its texels, or what it reads, are others, too
+        if is_strict:
+            prober.looks = tuple(similar(look))
+        elif READING & facts_of(experiment):      # on other cells its texels, or what it reads, are others, too
             prober.looks = (*VALUES, *SHAPES)
         if chosen != needs:
             prober.fault = Pair(DumpsDiffer(), ())
@@ -128,6 +142,7 @@ def reduce_kind(bench: Bench, experiment: Experiment, look: str, needs: Facts) -
             reducer = Reducer(prober, False)
             if not started(reducer, bench, experiment):
                 continue
+            cut_data(reducer)
             begun = reducer.units
             reducer.reduce()
             if not DumpsDiffer().shows(bench.ours, bench.theirs, capture_of(reducer.units, False), bench.seconds):
@@ -139,9 +154,11 @@ def reduce_kind(bench: Bench, experiment: Experiment, look: str, needs: Facts) -
         if found is None:
             continue
         small = tuple(unit.words for unit in reducer.units)
+        if not is_strict and chosen == needs and similar(look).isdisjoint(bench.judge([packed(small)])[0].looks):
+            continue
         kind = kind_of(small, look, needs)
         kind.lines = report_lines(found)[1:]
-        return kind, list(files_of(found, kind.label, ['theirs: ' + bench.theirs.text]))
+        return kind, list(files_of(found, kind.label, ['theirs: ' + bench.theirs.text])), small
     return None
 
 

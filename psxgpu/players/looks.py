@@ -10,6 +10,12 @@ OUTSIDE, LOST = 'cells outside of its box', 'their player breaks down'
 SHAPES, VALUES = (NOTHING, ALONE, EDGES, OTHERS), (BIT_15, STEP, COLOURS)
 MOST = 2000             # cells that are looked at
 CHANNELS = (0, 5, 10)
+SIMILAR = (frozenset([EDGES, OTHERS]), frozenset([STEP, COLOURS]))     # the same with another size or colour
+
+
+def similar(look: str) -> FrozenSet[str]:
+    """Returns a look, and what it is with another size or colour."""
+    return next((group for group in SIMILAR if look in group), frozenset([look]))
 
 
 def shape_of(before: array.array[int], ours: array.array[int], theirs: array.array[int], cells: Sequence[int],

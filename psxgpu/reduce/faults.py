@@ -68,7 +68,11 @@ class WordsDiffer(Fault):
             if strict:
                 raise
             return None
-        return next((FirstWord(k, a, b) for k, (a, b) in enumerate(zip(one, other), 1) if a != b), None)
+        return next((FirstWord(k, a, b) for k, (a, b) in enumerate(zip(one, other), 1) if self.differs(a, b)), None)
+
+    def differs(self, ours: int, theirs: int) -> bool:
+        """Returns whether two words differ."""
+        return ours != theirs
 
     def shows(self, ours: Player, theirs: Player, data: bytes, seconds: Optional[float], strict: bool = False) -> bool:
         found = self.first(ours, theirs, data, seconds, strict)

@@ -107,5 +107,5 @@ def may_have(unit: Unit) -> bool:
 
 def active(packets: Sequence[Words]) -> List[str]:
     """Returns the features that packets have. Those of a load are its own."""
-    return [feature for feature, change in FEATURES.items()
-            if any(change(packet) != packet for packet in packets if name_of(packet) != LOAD or packet is packets[-1])]
+    own = [packet for packet in packets if packet is packets[-1] or name_of(packet) != LOAD]
+    return [feature for feature, change in FEATURES.items() if any(change(packet) != packet for packet in own)]

@@ -12,12 +12,16 @@ from psxgpu.fuzz.deciding import of_class, of_random
 from psxgpu.fuzz.hunt import Hunt, ground_of
 from psxgpu.fuzz.kinds import Kind, Store
 from psxgpu.fuzz.making import Maker, packed
+from psxgpu.fuzz.nearby import Nearby, Seen, most_telling
+from psxgpu.fuzz.reading import facts_of as sequence_facts
+from psxgpu.fuzz.reducing import reduce_kind
 from psxgpu.fuzz.rules import Samples
 from psxgpu.packets import deciders
 from psxgpu.packets.generated import CLASSES
 from psxgpu.players.bench import LOST, Bench, DumpBench
-from psxgpu.players.looks import BIT_15, COLOURS, EDGES, NOTHING, STEP
+from psxgpu.players.looks import BIT_15, COLOURS, EDGES, NOTHING, OTHERS, STEP
 from psxgpu.players.named import Done, Player, player_of
+from psxgpu.stream import GP0, GP1, READ, STAT
 from tests import support
 from tests.tools import wrong_players as wrong
 
@@ -46,28 +50,56 @@ class Parts(unittest.TestCase):
             facts_of(one)
             maker.keep(one)
 
-    def test_rules(self):
-        """Half of the flipped ones with an even U differ, and a few of the others: the rule has both facts, and no
-        other."""
-        samples, r = Samples(), random.Random(2)
-        for _ in range(2000):
-            facts = frozenset(fact for fact in ('flip', 'even', 'dither', 'wide') if r.random() < 0.5)
-            differs = {'flip', 'even'} <= facts and r.random() < 0.5
-            samples.add('rectangle', facts, [COLOURS] if differs else [])
-        seed = frozenset(['flip', 'even', 'dither', 'wide'])
-        self.assertEqual(samples.rule('rectangle', COLOURS, seed), {'flip', 'even'})
+    def test_telling(self):
+        """Of 40 flipped ones, those with an even U differ, wide or not. So an even U tells, and a width does not. A
+        fact that few lack tells nothing."""
+        seen = [Seen(frozenset(facts), 10, 10 if 'an even U' in facts else 0)
+                for facts in ((), ('an even U',), ('width above 1',), ('an even U', 'width above 1'))]
+        self.assertEqual(most_telling(seen, ['width above 1', 'an even U']), 'an even U')
+        self.assertIsNone(most_telling(seen, ['width above 1']))
+        few = [Seen(frozenset(['an even U']), 40, 40), Seen(frozenset(), 7, 0)]
+        self.assertIsNone(most_telling(few, ['an even U']))
+
+    def test_samples(self):
+        """Of 100 polygons 10 differ at their edges: 9 of the 10 wide ones, and 1 of the 90 others."""
+        samples = Samples()
+        for k in range(100):
+            facts = frozenset(['wider than 1023'] if k < 10 else ['dither'] if k < 50 else [])
+            samples.add('polygon', facts, [EDGES] if k < 9 or k == 50 else [])
         again = Samples()
         again.take(samples.as_list())
-        self.assertEqual(again.rule('rectangle', COLOURS, seed), {'flip', 'even'})
+        for one in (samples, again):
+            self.assertEqual(one.count('polygon', EDGES, frozenset()), 10)
+            self.assertTrue(one.is_apart('polygon', EDGES, frozenset(), frozenset(['wider than 1023'])))
+            self.assertFalse(one.is_apart('polygon', EDGES, frozenset(), frozenset(['dither'])))
+        kinds = {'a': kind('polygon', []), 'b': kind('polygon', ['wider than 1023']), 'c': kind('polygon', ['dither'])}
+        self.assertEqual(sorted(sorted(cause.keys) for cause in causes(kinds, samples)), [['a', 'c'], ['b']])
 
     def test_causes(self):
-        """A kind that needs more than another one is a case of it; so is the same condition in another packet. One
-        without a condition explains no other look."""
+        """A kind that needs more than another one is a case of it; so is the same setting in another packet, or what
+        shares a condition. One without a condition explains no other look."""
         kinds = {'a': kind('rectangle', ['x-flip', 'an even U']),
                  'b': kind('rectangle', ['x-flip', 'an even U', 'dither']), 'c': kind('line', ['offset']),
                  'd': kind('polygon', ['offset']), 'e': kind('polygon', []),
-                 'f': kind('polygon', ['wider than 1023'], NOTHING)}
-        self.assertEqual(sorted(sorted(cause.keys) for cause in causes(kinds)), [['a', 'b'], ['c', 'd'], ['e'], ['f']])
+                 'f': kind('polygon', ['wider than 1023'], NOTHING), 'g': kind('line', ['a tie', 'to the left']),
+                 'h': kind('line', ['a tie', 'steep']), 'i': kind('line', ['several colours'], STEP),
+                 'j': kind('polygon', ['several colours'], STEP)}
+        found = causes(kinds, Samples())
+        self.assertEqual(sorted(sorted(cause.keys) for cause in found),
+                         [['a', 'b'], ['c', 'd'], ['e'], ['f'], ['g', 'h'], ['i'], ['j']])
+        self.assertIn('line, if a tie: cells at its edges', [cause.sentence for cause in found])
+        self.assertIn('line, polygon with a drawing offset: cells at its edges', [cause.sentence for cause in found])
+
+    def test_sequences(self):
+        """What is open, unfinished or asked for in a sequence of records."""
+        store, read, status = (GP0, 3, (0xC0000000, 0, 0x00010003)), (READ, 2, ()), (STAT, 1, ())
+        for records, facts in (
+                ([store, read], {'a store', 'an odd number of cells'}), ([store, status], {'an open store'}),
+                ([store, (GP0, 1, (0xE1000000,)), read], {'an open store', 'E1h'}), ([read], {'nothing before it'}),
+                ([(GP0, 2, (0x20000000, 0)), status], {'an unfinished packet'}),
+                ([(GP1, 1, (0x10000003,)), read], {'GP1(10h) 2 to 5'}),
+                ([(GP1, 1, (0x44000001,)), status], {'GP1 from 40h'})):
+            self.assertEqual(sequence_facts(records), facts)
 
     def test_sections(self):
         """Each decision names a section of docs/MACHINE.md."""
@@ -154,6 +186,23 @@ class Hunting(support.InFolder):
         with mock.patch('psxgpu.fuzz.reducing.reduced', side_effect=ToolError('other bytes')):
             store = self.hunted('sum_for_difference', packed([(0xE1000040,), quad]))
         self.assertEqual((store.kinds, store.counts()[0]['counts']['not shown alone']), ({}, 1))
+
+    def test_needs(self):
+        """Y flip is lost if the rectangle is wider than 16: it needs this, and neither dither nor a place."""
+        sprite = packed([(0xE1002208,), (0x64808080, 0x00100020, 0, 0x00040020)])
+        bench = Bench(player_of(support.PLAYER), wrong.FAULTS['wide_unflipped'], ground_of(1))
+        near = Nearby(bench, Maker(random.Random(1)), sprite, COLOURS)
+        self.assertEqual(near.rule(), {'texture', 'y-flip', 'width above 16'})
+
+    def test_load_without_its_end(self):
+        """A load of width 0 has 512 data words. The players differ after the first ones: no more are kept."""
+        def fault(name, words, registers):
+            return [*words[:2], words[2] | 1, *words[3:4]] if name == 'load' and not words[2] & 0x3FF else words
+        bench = Bench(player_of(support.PLAYER), wrong.Wrong(fault), ground_of(1))
+        load = packed([(0xA0000000, 0, 0x00010000, *range(1, 513))])
+        found, _, small = reduce_kind(bench, load, OTHERS, frozenset(['size 0']))
+        self.assertLessEqual(found.words, 10)
+        self.assertEqual(small[-1][0], 0xA0000000)
 
     def test_blending(self):
         quad = (0x2AFFFFFF, 0, 20, 20 << 16, 20 << 16 | 20)
