@@ -4,7 +4,8 @@
 //! An emulator's own test is five lines. Its closure gets the events of a test, and returns video memory: 512 rows of 1024
 //! cells.
 //!
-//! ```
+#![cfg_attr(feature = "machine", doc = "```")]
+#![cfg_attr(not(feature = "machine"), doc = "```ignore")]
 //! # struct MyGpu(psxgpu::Gpu);
 //! # impl MyGpu {
 //! #     fn new() -> Self { MyGpu(psxgpu::Gpu::new().unwrap()) }
@@ -73,7 +74,6 @@ pub struct Suite {
 
 impl Suite {
     /// Returns all tests.
-    #[allow(clippy::new_without_default)]
     pub fn new() -> Self {
         Suite { tests: tests(), is_by_ports: false, is_strict: false }
     }
@@ -154,6 +154,12 @@ impl Suite {
                 name
             );
         }
+    }
+}
+
+impl Default for Suite {
+    fn default() -> Self {
+        Suite::new()
     }
 }
 
