@@ -21,8 +21,8 @@
 //! // }
 //! ```
 //!
-//! A closure that returns an [`Answer`] has the words that were read and the shown picture compared too. An emulator that
-//! takes only words at its ports runs [`Suite::by_ports`].
+//! So only the cells are compared ([`Report::in_part`]). A closure that returns an [`Answer`] has the words that were read
+//! and the shown picture compared too. An emulator that takes only words at its ports runs [`Suite::by_ports`].
 mod judging;
 mod packed;
 mod suite;
@@ -117,7 +117,7 @@ impl Suite {
         &self.tests
     }
 
-    /// Runs the tests, and panics with the report if it is no success.
+    /// Runs the tests, and panics with the report if it is no success. Else prints it.
     ///
     /// # Panics
     ///
@@ -125,6 +125,7 @@ impl Suite {
     pub fn check<A: Into<Answer>>(&self, run: impl FnMut(&[Event]) -> A) {
         let report = self.run(run);
         assert!(report.is_success(), "{}", report);
+        println!("{}", report);
     }
 
     /// Runs the tests with a closure that gets their events.
