@@ -18,10 +18,10 @@ fn main() {
         return;
     }
     match found() {
-        Ok((folder, kind)) => {
-            println!("cargo:rerun-if-changed={}", folder.display());
-            println!("cargo:rustc-link-search=native={}", folder.display());
-            println!("cargo:rustc-link-lib={}=psxgpu", kind);
+        Ok(library) => {
+            println!("cargo:rerun-if-changed={}", library.folder.join(library.name).display());
+            println!("cargo:rustc-link-search=native={}", library.folder.display());
+            println!("cargo:rustc-link-lib={}=psxgpu", library.kind);
         }
         Err(message) => {
             eprintln!("psxgpu: {}", message);
@@ -30,41 +30,42 @@ fn main() {
     }
 }
 
-/// Returns the folder of the library and how it is linked, or what to do if there is none.
-fn found() -> Result<(PathBuf, &'static str), String> {
-    if let Some(folder) = env::var_os("PSXGPU_LIB_DIR") {
-        let folder = PathBuf::from(folder);
-        return match kind_in(&folder) {
-            _ if folder.is_relative() => Err(format!("PSXGPU_LIB_DIR is {}: name its whole path", folder.display())),
-            Some(kind) => Ok((folder, kind)),
-            None => Err(format!(
-                "PSXGPU_LIB_DIR is {}, and libpsxgpu is not there: `make lib` builds it into out/ of a checkout",
-                folder.display()
-            )),
-        };
-    }
-    let folders = [of_pkg_config(), of_checkout()];
-    for folder in folders.iter().flatten() {
-        if let Some(kind) = kind_in(folder) {
-            return Ok((folder.clone(), kind));
-        }
-    }
-    Err("libpsxgpu was not found: build it by `make lib` in a checkout of psxgpu_tool, and set PSXGPU_LIB_DIR to its \
-         folder out/; or install it by `make install`, so that pkg-config finds psxgpu.pc; or use this crate without \
-         its feature `machine`"
-        .to_owned())
+/// Where the library is, and how it is linked.
+struct Library {
+    folder: PathBuf,
+    name: &'static str,
+    kind: &'static str,
 }
 
-/// Returns how the library in a folder is linked, if it is there.
-fn kind_in(folder: &Path) -> Option<&'static str> {
-    let has = |names: &[&str]| names.iter().any(|name| folder.join(name).is_file());
-    if has(&STATIC) {
-        Some("static")
-    } else if has(&SHARED) {
-        Some("dylib")
-    } else {
-        None
+/// Returns the library, or what to do if there is none.
+fn found() -> Result<Library, String> {
+    if let Some(folder) = env::var_os("PSXGPU_LIB_DIR") {
+        let folder = PathBuf::from(folder);
+        if folder.is_relative() {
+            return Err(format!("PSXGPU_LIB_DIR is {}: name its whole path", folder.display()));
+        }
+        return library_in(&folder).ok_or_else(|| {
+            let place = folder.display();
+            format!(
+                "PSXGPU_LIB_DIR is {}, and libpsxgpu is not there: `make lib` builds it into out/ of a checkout",
+                place
+            )
+        });
     }
+    let folders = [of_pkg_config(), of_checkout()];
+    folders.iter().flatten().find_map(|folder| library_in(folder)).ok_or_else(|| {
+        "libpsxgpu was not found: build it by `make lib` in a checkout of psxgpu_tool, and set PSXGPU_LIB_DIR to its \
+         folder out/; or install it by `make install`, so that pkg-config finds psxgpu.pc; or use this crate without \
+         its feature `machine`"
+            .to_owned()
+    })
+}
+
+/// Returns the library in a folder, the static one if there are both.
+fn library_in(folder: &Path) -> Option<Library> {
+    let names = STATIC.iter().map(|&name| (name, "static")).chain(SHARED.iter().map(|&name| (name, "dylib")));
+    let mut there = names.filter(|(name, _)| folder.join(name).is_file());
+    there.next().map(|(name, kind)| Library { folder: folder.to_path_buf(), name, kind })
 }
 
 /// Returns the folder that pkg-config knows. Its files are for the host, so another target has none.

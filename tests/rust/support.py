@@ -14,8 +14,9 @@ ARCHIVE = os.path.join(TOP, 'out', 'libpsxgpu.a')
 def cargo(*words, folder=os.path.join(TOP, 'rust', 'psxgpu')):
     """Runs cargo without a network, with the library of this checkout."""
     environment = dict(os.environ, CARGO_TARGET_DIR=TARGET, PSXGPU_LIB_DIR=os.path.dirname(ARCHIVE))
-    return subprocess.run(['cargo', *words, '--offline', '--quiet'], cwd=folder, env=environment, capture_output=True,
-                          text=True)
+    command, *rest = words
+    return subprocess.run(['cargo', command, '--offline', '--quiet', *rest], cwd=folder, env=environment,
+                          capture_output=True, text=True)
 
 
 @functools.lru_cache(maxsize=None)

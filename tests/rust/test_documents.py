@@ -1,5 +1,5 @@
 """docs/LIBRARY.md does what it says of Rust: a crate outside of the checkout, made of its blocks alone, draws, records
-and runs the suite. One that uses the packed crate draws, too."""
+and runs the suite. One that uses the packed crate draws, too. The example of docs/EMBEDDING.md draws and records."""
 import os
 import re
 import shutil
@@ -9,7 +9,8 @@ import tempfile
 import unittest
 
 from packages.crate import crates
-from tests.rust.support import ARCHIVE, TARGET, needs_driver
+from tests.library.support import play
+from tests.rust.support import ARCHIVE, TARGET, cargo, needs_driver
 from tests.support import PLAYER, TOP, needs, needs_player
 
 setUpModule = needs_driver
@@ -32,6 +33,25 @@ def commands():
     """The commands of the page, and what each writes."""
     text = re.search(r'(?ms)^```sh\n(.*?)^```', section())[1]
     return re.findall(r'(?m)^\$ (.*)\n((?:[^$].*\n)*)', text)
+
+
+class Example(unittest.TestCase):
+    @needs_player
+    def test_embed(self):
+        with open(os.path.join(TOP, 'docs', 'EMBEDDING.md')) as file:
+            self.assertIn('    cargo run --example embed -- frames.capture\n', file.read())
+        with tempfile.TemporaryDirectory() as folder:
+            path = os.path.join(folder, 'frames.capture')
+            done = cargo('run', '--example', 'embed', '--', path)
+            lines = ['320 by 240, first pixel [%s]\n' % pixel for pixel in ('ff, 00, 00', '00, ff, 00', '00, 00, ff')]
+            self.assertEqual((done.returncode, done.stdout), (0, ''.join(lines)), done.stderr)
+            with open(path, 'rb') as file:
+                status, pictures, _ = play('frames marks', file.read())
+        size = len('P6\n320 240\n255\n')
+        whole = size + 3 * 320 * 240
+        self.assertEqual((status, len(pictures)), (0, 3 * whole))
+        pixels = [pictures[at + size:at + size + 3] for at in range(0, 3 * whole, whole)]
+        self.assertEqual(pixels, [b'\xff\0\0', b'\0\xff\0', b'\0\0\xff'])
 
 
 class Stranger(unittest.TestCase):

@@ -4,7 +4,8 @@
 //! An emulator's own test is five lines. Its closure gets the events of a test, and returns video memory: 512 rows of 1024
 //! cells.
 //!
-//! ```
+#![cfg_attr(feature = "machine", doc = "```")]
+#![cfg_attr(not(feature = "machine"), doc = "```ignore")]
 //! # struct MyGpu(psxgpu::Gpu);
 //! # impl MyGpu {
 //! #     fn new() -> Self { MyGpu(psxgpu::Gpu::new().unwrap()) }
@@ -20,8 +21,8 @@
 //! // }
 //! ```
 //!
-//! A closure that returns an [`Answer`] has the words that were read and the shown picture compared too. An emulator that
-//! takes only words at its ports runs [`Suite::by_ports`].
+//! So only the cells are compared ([`Report::in_part`]). A closure that returns an [`Answer`] has the words that were read
+//! and the shown picture compared too. An emulator that takes only words at its ports runs [`Suite::by_ports`].
 mod judging;
 mod packed;
 mod suite;
@@ -73,7 +74,6 @@ pub struct Suite {
 
 impl Suite {
     /// Returns all tests.
-    #[allow(clippy::new_without_default)]
     pub fn new() -> Self {
         Suite { tests: tests(), is_by_ports: false, is_strict: false }
     }
@@ -117,7 +117,7 @@ impl Suite {
         &self.tests
     }
 
-    /// Runs the tests, and panics with the report if it is no success.
+    /// Runs the tests, and panics with the report if it is no success. Else prints it.
     ///
     /// # Panics
     ///
@@ -125,6 +125,7 @@ impl Suite {
     pub fn check<A: Into<Answer>>(&self, run: impl FnMut(&[Event]) -> A) {
         let report = self.run(run);
         assert!(report.is_success(), "{}", report);
+        println!("{}", report);
     }
 
     /// Runs the tests with a closure that gets their events.
@@ -154,6 +155,12 @@ impl Suite {
                 name
             );
         }
+    }
+}
+
+impl Default for Suite {
+    fn default() -> Self {
+        Suite::new()
     }
 }
 
