@@ -90,7 +90,10 @@ class Changing(unittest.TestCase):
 
 
 class AtRandom(Changing):
-    """Each recording is changed at random, up to five times at once."""
+    """Each recording is changed at random, up to five times at once. A small window is drawn faster."""
+
+    def setUp(self):
+        self.page.size(400, 300)
 
     def changed_at_random(self, name, count):
         at, data = random.Random(name), recording(name)
@@ -106,15 +109,16 @@ class AtRandom(Changing):
                     self.same()
             self.all_same()
             changed = self.shown()
-            for _ in range(together):
-                self.page.evaluate('probe.app.whatIf.undo()')
+            self.again('undo', together)
             self.assertEqual(self.shown(), original)
             self.assertEqual(self.page.evaluate('probe.app.whatIf.count'), 0)
-            for _ in range(together):
-                self.page.evaluate('probe.app.whatIf.redo()')
+            self.again('redo', together)
             self.assertEqual(self.shown(), changed)
-            for _ in range(together):
-                self.page.evaluate('probe.app.whatIf.undo()')
+            self.again('undo', together)
+
+    def again(self, what, times):
+        """Undoes or redoes changes."""
+        self.page.evaluate('for (let k = 0; k < %d; k++) probe.app.whatIf.%s()' % (times, what))
 
     def test_two_hundred_changes(self):
         self.assertEqual(sum(CHANGES.values()), 200)
@@ -248,6 +252,24 @@ class Saving(Changing):
                       'packets are words for GP0 in it.', self.page.text('#said'))
         self.assertIn('changed: 1 packet', self.page.text('#changed-mark'))
         self.all_same()
+
+    def test_what_is_before_a_fault(self):
+        """The saved capture has what was opened, and no fault."""
+        self.assertIn('bad-record', self.page.load(squares()[:-4] + b'\xff' * 8, 'bad.capture'))
+        self.page.click('#said button')
+        self.page.ask('played')
+        self.page.evaluate('probe.app.whatIf.toggle(%d)' % self.page.ask('packetRows')[2])
+        self.all_same()
+
+    def test_compared_with_the_file(self):
+        """The second square alone differs: 40 by 40 cells."""
+        self.load(squares(), 'squares.capture')
+        self.page.evaluate('probe.app.whatIf.toggle(%d)' % (self.page.evaluate('probe.app.recording.rows.kind.indexOf(3)') + 1))
+        self.page.evaluate('[...document.querySelectorAll("#changes button")].find(it => it.textContent.startsWith("Compare"))'
+                           '.click()')
+        self.page.until('document.getElementById("compare").textContent.includes("first packet")')
+        self.assertIn('1,600 cells, in 80 30 119 69', self.page.text('#compare'))
+        self.page.evaluate('probe.viewer.compare.forget()')
 
     def test_nothing_is_changed(self):
         self.load(example('two-fills'), 'two-fills.capture')
