@@ -11,6 +11,7 @@ import unittest
 
 from tests.viewer.made import drawn_at_random
 from tests.viewer.page import EXAMPLES, Page, program
+from tests.viewer.recordings import palette_page
 from tests.viewer.test_dumps import dump_of
 
 from psxgpu.capture import Capture, draw_mode, drawing_area, fill, line, load, polygon, rectangle, screen
@@ -211,20 +212,29 @@ class Reader(Changing):
 
     def test_a_png_replaces_the_cells_of_a_load(self):
         """Bit 15 stays: cells 001Fh and 801Fh become blue ones. A pixel that is not drawn becomes 0000h."""
-        self.page.evaluate('probe.app.seekRow(%d)' % self.rows['load'])
-        words = self.page.evaluate('''(async () => {
-            const canvas = new OffscreenCanvas(4, 2), context = canvas.getContext('2d');
-            context.fillStyle = '#0000ff';
-            context.fillRect(1, 0, 3, 2);
-            const file = await canvas.convertToBlob({ type: 'image/png' }), here = module_packet_panel.rowHere(probe.app);
-            const all = probe.app.recording.wordsOf(here.row);
-            const out = await module_load_image.wordsOfImage(file, here, all, { cells: probe.app.cells });
-            probe.app.whatIf.setAll(here.row, out);
-            return [...out]; })()''')
-        self.assertEqual(words[3:], [0xFC000000, 0xFC007C00] * 2)
-        self.page.evaluate('probe.app.seek(1e12)')
-        self.assertEqual([self.cell(512 + k, 0) for k in range(4)], [0, 0xFC00, 0x7C00, 0xFC00])
+        self.replace(4, 2, 'context.fillStyle = "#0000ff"; context.fillRect(1, 0, 3, 2);')
+        self.assertEqual([self.cell(512 + k, row) for row in (0, 1) for k in range(4)], [0, 0xFC00, 0x7C00, 0xFC00] * 2)
         self.all_same()
+
+    def test_a_png_is_looked_up_in_the_palette(self):
+        """Texels of 4 bits in the colours of the palette from the last to the first, which is not drawn: F to 0."""
+        self.load(palette_page(), 'palette.capture')
+        self.page.press('4', '4')
+        self.page.set('#palette', '0,480')
+        self.replace(16, 1, 'for (let k = 0; k < 15; k++) { context.fillStyle = `rgb(${[8, 8, 8].map(by => by * (15 - k))})`; '
+                     'context.fillRect(k, 0, 1, 1); }')
+        self.assertEqual([self.cell(640 + k, 0) for k in range(4)], [0xCDEF, 0x89AB, 0x4567, 0x0123])
+        self.all_same()
+
+    def replace(self, width, height, drawn):
+        """Replaces the first load by a PNG, with the video memory of the end."""
+        self.page.evaluate('''(async () => {
+            const canvas = new OffscreenCanvas(%d, %d), context = canvas.getContext('2d');
+            %s
+            const file = await canvas.convertToBlob({ type: 'image/png' }), { app, viewer } = probe, { recording } = app;
+            const row = recording.rows.kind.indexOf(5), words = recording.wordsOf(row), how = viewer.views.choice.shown;
+            const out = await module_load_image.wordsOfImage(file, { words }, words, { cells: app.cells, how });
+            app.whatIf.setAll(row, out); })()''' % (width, height, drawn))
 
     def test_the_history_of_a_cell_and_a_cut_are_of_the_changed_recording(self):
         self.page.evaluate('probe.app.whatIf.toggle(%d)' % self.rows['square'])
