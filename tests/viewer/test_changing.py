@@ -66,6 +66,11 @@ class Changing(unittest.TestCase):
         memory, picture, (text, _) = self.page.ask('changedEnd')
         return memory, picture, base64.b64decode(text)
 
+    def press(self, panel, text):
+        """Presses a button of a panel."""
+        self.page.evaluate('[...document.querySelectorAll("%s button")].find(it => it.textContent === "%s").click()'
+                           % (panel, text))
+
     def same(self):
         """The page shows at the end the video memory that the program makes of the saved capture."""
         shown = self.shown()
@@ -198,7 +203,7 @@ class Reader(Changing):
 
     def test_fields_are_inputs(self):
         self.page.evaluate('probe.app.seekRow(%d)' % self.rows['square'])
-        self.page.evaluate('[...document.querySelectorAll("#packet button")].find(it => it.textContent === "Change").click()')
+        self.press('#packet', 'Change')
         self.page.set('#packet input[aria-label="corner: x, y"]', '200, 100')
         self.assertEqual((self.cell(30, 40), self.cell(210, 110)), (0, RED))
         self.page.set('#packet input[aria-label^="colour"]', '#00ff00')
@@ -207,7 +212,7 @@ class Reader(Changing):
         self.assertIn('write 2 numbers', self.page.text('#packet'))
         self.page.set('#packet textarea', '60ff0000 00640000 00280028')
         self.assertEqual(self.cell(10, 110), BLUE_SHOWN)
-        self.page.evaluate('[...document.querySelectorAll("#packet button")].find(it => it.textContent === "As it was").click()')
+        self.press('#packet', 'As it was')
         self.assertEqual((self.cell(30, 40), self.count()), (RED, 0))
 
     def test_a_png_replaces_the_cells_of_a_load(self):
@@ -221,8 +226,10 @@ class Reader(Changing):
         self.load(palette_page(), 'palette.capture')
         self.page.press('4', '4')
         self.page.set('#palette', '0,480')
-        self.replace(16, 1, 'for (let k = 0; k < 15; k++) { context.fillStyle = `rgb(${[8, 8, 8].map(by => by * (15 - k))})`; '
-                     'context.fillRect(k, 0, 1, 1); }')
+        self.replace(16, 1, '''for (let k = 0; k < 15; k++) {
+            context.fillStyle = `rgb(${[8, 8, 8].map(by => by * (15 - k))})`;
+            context.fillRect(k, 0, 1, 1);
+        }''')
         self.assertEqual([self.cell(640 + k, 0) for k in range(4)], [0xCDEF, 0x89AB, 0x4567, 0x0123])
         self.all_same()
 
@@ -231,7 +238,8 @@ class Reader(Changing):
         self.page.evaluate('''(async () => {
             const canvas = new OffscreenCanvas(%d, %d), context = canvas.getContext('2d');
             %s
-            const file = await canvas.convertToBlob({ type: 'image/png' }), { app, viewer } = probe, { recording } = app;
+            const file = await canvas.convertToBlob({ type: 'image/png' });
+            const { app, viewer } = probe, { recording } = app;
             const row = recording.rows.kind.indexOf(5), words = recording.wordsOf(row), how = viewer.views.choice.shown;
             const out = await module_load_image.wordsOfImage(file, { words }, words, { cells: app.cells, how });
             app.whatIf.setAll(row, out); })()''' % (width, height, drawn))
@@ -258,8 +266,8 @@ class Saving(Changing):
         self.page.evaluate('probe.app.whatIf.toggle(%d)' % row)
         self.page.call('Browser.setDownloadBehavior', behavior='allow', downloadPath=self.folder)
         self.page.evaluate('probe.viewer.out.changed()')
-        self.assertIn('Saved textured-frame-changed.capture: 1 packet changed. The words of 1 event of DMA with changed '
-                      'packets are words for GP0 in it.', self.page.text('#said'))
+        self.assertIn('Saved textured-frame-changed.capture: 1 packet changed. The words of 1 event of DMA with '
+                      'changed packets are words for GP0 in it.', self.page.text('#said'))
         self.assertIn('changed: 1 packet', self.page.text('#changed-mark'))
         self.all_same()
 
@@ -274,9 +282,9 @@ class Saving(Changing):
     def test_compared_with_the_file(self):
         """The second square alone differs: 40 by 40 cells."""
         self.load(squares(), 'squares.capture')
-        self.page.evaluate('probe.app.whatIf.toggle(%d)' % (self.page.evaluate('probe.app.recording.rows.kind.indexOf(3)') + 1))
-        self.page.evaluate('[...document.querySelectorAll("#changes button")].find(it => it.textContent.startsWith("Compare"))'
-                           '.click()')
+        first = self.page.evaluate('probe.app.recording.rows.kind.indexOf(3)')
+        self.page.evaluate('probe.app.whatIf.toggle(%d)' % (first + 1))
+        self.press('#changes', 'Compare with the file')
         self.page.until('document.getElementById("compare").textContent.includes("first packet")')
         self.assertIn('1,600 cells, in 80 30 119 69', self.page.text('#compare'))
         self.page.evaluate('probe.viewer.compare.forget()')
