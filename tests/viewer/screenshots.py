@@ -43,7 +43,8 @@ def main():
         take(page, 'viewer-texture.png')
         page.set('#palette', '')
         page.press('2', '2')
-        page.evaluate('[...document.querySelectorAll("#packet button")].find(it => it.textContent === "Change").click()')
+        page.evaluate('[...document.querySelectorAll("#packet button")]'
+                      '.find(it => it.textContent === "Change").click()')
         page.set('#packet input[aria-label="palette: x, y"]', '0, 480')
         page.ask('played')
         take(page, 'viewer-changed.png')

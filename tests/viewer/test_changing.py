@@ -11,6 +11,7 @@ import unittest
 
 from tests.viewer.made import drawn_at_random
 from tests.viewer.page import EXAMPLES, Page, program
+from tests.viewer.recordings import palette_page
 from tests.viewer.test_dumps import dump_of
 
 from psxgpu.capture import Capture, draw_mode, drawing_area, fill, line, load, polygon, rectangle, screen
@@ -65,6 +66,11 @@ class Changing(unittest.TestCase):
         memory, picture, (text, _) = self.page.ask('changedEnd')
         return memory, picture, base64.b64decode(text)
 
+    def press(self, panel, text):
+        """Presses a button of a panel."""
+        self.page.evaluate('[...document.querySelectorAll("%s button")].find(it => it.textContent === "%s").click()'
+                           % (panel, text))
+
     def same(self):
         """The page shows at the end the video memory that the program makes of the saved capture."""
         shown = self.shown()
@@ -90,7 +96,10 @@ class Changing(unittest.TestCase):
 
 
 class AtRandom(Changing):
-    """Each recording is changed at random, up to five times at once."""
+    """Each recording is changed at random, up to five times at once. A small window is drawn faster."""
+
+    def setUp(self):
+        self.page.size(400, 300)
 
     def changed_at_random(self, name, count):
         at, data = random.Random(name), recording(name)
@@ -106,15 +115,16 @@ class AtRandom(Changing):
                     self.same()
             self.all_same()
             changed = self.shown()
-            for _ in range(together):
-                self.page.evaluate('probe.app.whatIf.undo()')
+            self.again('undo', together)
             self.assertEqual(self.shown(), original)
             self.assertEqual(self.page.evaluate('probe.app.whatIf.count'), 0)
-            for _ in range(together):
-                self.page.evaluate('probe.app.whatIf.redo()')
+            self.again('redo', together)
             self.assertEqual(self.shown(), changed)
-            for _ in range(together):
-                self.page.evaluate('probe.app.whatIf.undo()')
+            self.again('undo', together)
+
+    def again(self, what, times):
+        """Undoes or redoes changes."""
+        self.page.evaluate('for (let k = 0; k < %d; k++) probe.app.whatIf.%s()' % (times, what))
 
     def test_two_hundred_changes(self):
         self.assertEqual(sum(CHANGES.values()), 200)
@@ -193,7 +203,7 @@ class Reader(Changing):
 
     def test_fields_are_inputs(self):
         self.page.evaluate('probe.app.seekRow(%d)' % self.rows['square'])
-        self.page.evaluate('[...document.querySelectorAll("#packet button")].find(it => it.textContent === "Change").click()')
+        self.press('#packet', 'Change')
         self.page.set('#packet input[aria-label="corner: x, y"]', '200, 100')
         self.assertEqual((self.cell(30, 40), self.cell(210, 110)), (0, RED))
         self.page.set('#packet input[aria-label^="colour"]', '#00ff00')
@@ -202,25 +212,37 @@ class Reader(Changing):
         self.assertIn('write 2 numbers', self.page.text('#packet'))
         self.page.set('#packet textarea', '60ff0000 00640000 00280028')
         self.assertEqual(self.cell(10, 110), BLUE_SHOWN)
-        self.page.evaluate('[...document.querySelectorAll("#packet button")].find(it => it.textContent === "As it was").click()')
+        self.press('#packet', 'As it was')
         self.assertEqual((self.cell(30, 40), self.count()), (RED, 0))
 
     def test_a_png_replaces_the_cells_of_a_load(self):
         """Bit 15 stays: cells 001Fh and 801Fh become blue ones. A pixel that is not drawn becomes 0000h."""
-        self.page.evaluate('probe.app.seekRow(%d)' % self.rows['load'])
-        words = self.page.evaluate('''(async () => {
-            const canvas = new OffscreenCanvas(4, 2), context = canvas.getContext('2d');
-            context.fillStyle = '#0000ff';
-            context.fillRect(1, 0, 3, 2);
-            const file = await canvas.convertToBlob({ type: 'image/png' }), here = module_packet_panel.rowHere(probe.app);
-            const all = probe.app.recording.wordsOf(here.row);
-            const out = await module_load_image.wordsOfImage(file, here, all, { cells: probe.app.cells });
-            probe.app.whatIf.setAll(here.row, out);
-            return [...out]; })()''')
-        self.assertEqual(words[3:], [0xFC000000, 0xFC007C00] * 2)
-        self.page.evaluate('probe.app.seek(1e12)')
-        self.assertEqual([self.cell(512 + k, 0) for k in range(4)], [0, 0xFC00, 0x7C00, 0xFC00])
+        self.replace(4, 2, 'context.fillStyle = "#0000ff"; context.fillRect(1, 0, 3, 2);')
+        self.assertEqual([self.cell(512 + k, row) for row in (0, 1) for k in range(4)], [0, 0xFC00, 0x7C00, 0xFC00] * 2)
         self.all_same()
+
+    def test_a_png_is_looked_up_in_the_palette(self):
+        """Texels of 4 bits in the colours of the palette from the last to the first, which is not drawn: F to 0."""
+        self.load(palette_page(), 'palette.capture')
+        self.page.press('4', '4')
+        self.page.set('#palette', '0,480')
+        self.replace(16, 1, '''for (let k = 0; k < 15; k++) {
+            context.fillStyle = `rgb(${[8, 8, 8].map(by => by * (15 - k))})`;
+            context.fillRect(k, 0, 1, 1);
+        }''')
+        self.assertEqual([self.cell(640 + k, 0) for k in range(4)], [0xCDEF, 0x89AB, 0x4567, 0x0123])
+        self.all_same()
+
+    def replace(self, width, height, drawn):
+        """Replaces the first load by a PNG, with the video memory of the end."""
+        self.page.evaluate('''(async () => {
+            const canvas = new OffscreenCanvas(%d, %d), context = canvas.getContext('2d');
+            %s
+            const file = await canvas.convertToBlob({ type: 'image/png' });
+            const { app, viewer } = probe, { recording } = app;
+            const row = recording.rows.kind.indexOf(5), words = recording.wordsOf(row), how = viewer.views.choice.shown;
+            const out = await module_load_image.wordsOfImage(file, { words }, words, { cells: app.cells, how });
+            app.whatIf.setAll(row, out); })()''' % (width, height, drawn))
 
     def test_the_history_of_a_cell_and_a_cut_are_of_the_changed_recording(self):
         self.page.evaluate('probe.app.whatIf.toggle(%d)' % self.rows['square'])
@@ -244,10 +266,28 @@ class Saving(Changing):
         self.page.evaluate('probe.app.whatIf.toggle(%d)' % row)
         self.page.call('Browser.setDownloadBehavior', behavior='allow', downloadPath=self.folder)
         self.page.evaluate('probe.viewer.out.changed()')
-        self.assertIn('Saved textured-frame-changed.capture: 1 packet changed. The words of 1 event of DMA with changed '
-                      'packets are words for GP0 in it.', self.page.text('#said'))
+        self.assertIn('Saved textured-frame-changed.capture: 1 packet changed. The words of 1 event of DMA with '
+                      'changed packets are words for GP0 in it.', self.page.text('#said'))
         self.assertIn('changed: 1 packet', self.page.text('#changed-mark'))
         self.all_same()
+
+    def test_what_is_before_a_fault(self):
+        """The saved capture has what was opened, and no fault."""
+        self.assertIn('bad-record', self.page.load(squares()[:-4] + b'\xff' * 8, 'bad.capture'))
+        self.page.click('#said button')
+        self.page.ask('played')
+        self.page.evaluate('probe.app.whatIf.toggle(%d)' % self.page.ask('packetRows')[2])
+        self.all_same()
+
+    def test_compared_with_the_file(self):
+        """The second square alone differs: 40 by 40 cells."""
+        self.load(squares(), 'squares.capture')
+        first = self.page.evaluate('probe.app.recording.rows.kind.indexOf(3)')
+        self.page.evaluate('probe.app.whatIf.toggle(%d)' % (first + 1))
+        self.press('#changes', 'Compare with the file')
+        self.page.until('document.getElementById("compare").textContent.includes("first packet")')
+        self.assertIn('1,600 cells, in 80 30 119 69', self.page.text('#compare'))
+        self.page.evaluate('probe.viewer.compare.forget()')
 
     def test_nothing_is_changed(self):
         self.load(example('two-fills'), 'two-fills.capture')

@@ -31,11 +31,14 @@ class ChangedRecords {
     constructor(recording, events) {
         Object.assign(this, { recording, events, step: 0, played: recording.track.before, transfers: 0 });
         this.words = new FileWords();
+        // A recording that was opened up to a fault has nothing after its last event.
+        this.last = recording.isPart ? recording.eventAt(recording.length) : Infinity;
     }
 
     gp0(words) { this.putSteps(words.length, words.length); }
 
     ram(address, words) {
+        if (this.played >= this.last) return;
         this.put(0, words.length, TAG.RAM | words.length, address);
         this.words.putAll(words);
     }
@@ -86,6 +89,7 @@ class ChangedRecords {
 
     // Writes a record of this many steps and events.
     put(steps, events, ...words) {
+        if (this.played >= this.last) return;
         this.words.put(...words);
         this.step += steps;
         this.played += events;

@@ -17,7 +17,7 @@ function polylineStart({ rows }, row) {
         if (kind === KIND.LINE) return at;
         if (kind < KIND.GP1 && kind !== KIND.JOINT && kind !== KIND.FINISH) break;
     }
-    throw new RangeError('this polyline begins before the recording, so it is not changed');
+    throw new RangeError('this polyline begins before the recording, so it cannot be changed');
 }
 
 // The rows of a polyline, and the step after its last word. Words of an unfinished joint belong to it too.
@@ -51,9 +51,9 @@ function dataEnd({ rows, track }, row) {
  */
 export function packetAt(recording, row) {
     const { rows, track } = recording, kind = rows.kindOf(row);
-    if (!(kind < KIND.GP1)) throw new RangeError('only packets are changed, not words for GP1 or reads');
+    if (!(kind < KIND.GP1)) throw new RangeError('only packets can be changed, not words for GP1 or reads');
     if (row === rows.earlier.row && rows.earlier.words.length > 0) {
-        throw new RangeError('this packet begins before the recording, so it is not changed');
+        throw new RangeError('this packet begins before the recording, so it cannot be changed');
     }
     let found = { rows: [row], to: rows.done[row] + 1 };
     if (kind === KIND.JOINT || kind === KIND.FINISH) found = polylineOf(recording, polylineStart(recording, row));
