@@ -51,8 +51,8 @@ def arguments(parser: argparse.ArgumentParser) -> None:
     parser.add_argument('--only', action='append', type=Text, default=[], metavar='NAME',
                         help='a chapter, or CHAPTER/TEST')
     parser.add_argument('--page', type=Target, metavar='FILE',
-                        help='write a page with pictures: theirs, ours, the difference; with the viewer, also '
-                             'FILE-viewer.html, which shows each failure step by step')
+                        help='write a page with pictures: theirs, ours, the difference; if the viewer is built, also '
+                             'one that shows each failure step by step (page-viewer.html for page.html)')
     parser.add_argument('--junit', type=Target, metavar='FILE', help='write JUnit XML')
     parser.add_argument('--json', type=Target, metavar='FILE', help='write the verdicts')
     parser.add_argument('--expect', type=Source, metavar='FILE', help='known failures: only another one fails the run')

@@ -17,9 +17,9 @@ class Shown(NamedTuple):
 
 @dataclass
 class Finding:
-    """The result for one capture. `low` and `high`: it is the same after event `low`, and not after `high`. `event`: the
-    first after which a dump differs, `dump` and `cell`: the player's dump there, and the first cell that differs. `links`:
-    the files of the report beside its page, that it leads to; `page`: the one of the viewer."""
+    """The result for one capture. `low` and `high`: it is the same after event `low`, and not after `high`. `event`:
+    the first after which dumps differ; `dump`, `cell`: the player's dump there, and the first cell that differs.
+    `links`, `page`: files of the report beside its page, that it leads to, and the one of the viewer."""
     name: str
     kind: str = 'same'
     lines: List[str] = field(default_factory=list)

@@ -47,8 +47,8 @@ def page_of(cases: Sequence[Case], maker: str = 'psxgpu page') -> Optional[bytes
 
 
 def page_of_reduced(reduced: Reduced, name: str, notes: Sequence[str]) -> List[Content]:
-    """Returns NAME.html, a page with a reduced capture and what THEIRS drew; nothing if the viewer is not built. `notes`:
-    lines of the note above the view."""
+    """Returns NAME.html, a page with a reduced capture and what THEIRS drew; nothing if the viewer is not built.
+    `notes`: lines of the note above the view."""
     shown = Shown(reduced.dumps[1], compared(*reduced.dumps).places[0]) if reduced.dumps else Shown()
     note = '\n'.join([reduced.headline, *reduced.differs[:1], *notes])
     data = page_of([case_of(name.rpartition('/')[2], reduced.data, shown, note)])

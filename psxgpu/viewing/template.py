@@ -20,7 +20,7 @@ HEAD = '<!doctype html>\n'
 INSIDE = '<script type="application/json" id="inside">'     # web/viewer/pack.py
 END = '</script>'
 LEVEL = 6
-MOST = 1 << 28              # bytes of a packed recording: browsers take no longer texts
+MOST = 1 << 28              # bytes of a packed recording: with its base64, the page has to be one string of a browser
 ESCAPED = {ord(letter): '\\u%04x' % ord(letter) for letter in '<>&'}
 
 

@@ -161,11 +161,25 @@ class Pages(unittest.TestCase):
 
     def test_two_saved_by_the_viewer(self):
         one, other = (os.path.join(EXAMPLES, name + '.capture') for name in ('flips', 'two-fills'))
+        is_compared = 'document.getElementById("compare").textContent.includes("withtwo-fills.capture")'
         show(self.page, made(self.folder, one, other, '--at', '20'))
+        self.page.until(is_compared)
         data = self.saved('flips-20.html')
         show(self.page, self.write('saved.html', data))
         self.assertEqual(self.page.evaluate(SEEN)[:2], ['flips.capture', '20'])
-        self.page.until('document.getElementById("compare").textContent.includes("withtwo-fills.capture")')
+        self.page.until(is_compared)
+
+    def test_a_dump_to_compare_with_is_saved(self):
+        path = os.path.join(EXAMPLES, 'flips.capture')
+        with open(path, 'rb') as file:
+            dump = bytearray(program('vram', data=file.read())[0])
+        dump[0] ^= 1
+        show(self.page, made(self.folder, path, '--at', '36'))
+        self.page.choose('#dump', self.write('theirs.vram', dump))
+        self.page.until('document.getElementById("compare").textContent.includes("1 cell")')
+        show(self.page, self.write('saved.html', self.saved('flips-36.html')))
+        self.page.until('document.getElementById("compare").textContent.includes("withtheirs.vram")')
+        self.assertIn('differ1 cell', self.page.text('#compare'))
 
 
 class Quiet(http.server.SimpleHTTPRequestHandler):

@@ -33,6 +33,9 @@ export class App extends EventTarget {
     /** The steps that end frames: display starts or marks, as the reader chose. */
     get starts() { return this.recording?.[this.framesBy] ?? []; }
 
+    /** The parts of a longer recording, of which one is open, or null. */
+    get parts() { return this.recording?.parts ?? null; }
+
     /** The number of frames. */
     get frames() { return this.recording ? frameCount(this.recording, this.starts) : 0; }
 
@@ -168,7 +171,9 @@ export class App extends EventTarget {
         const { rows, length } = this.recording, list = isEvery ? null : this.listed;
         const row = nextRow(this, by, list, isEvery || list ? () => true : to => isStop(rows, to));
         if (row >= 0 && row < rows.length) this.seekRow(row);
-        else this.seek(row < 0 ? 0 : length, 'packet');
+        else if (!this.parts?.cross(by, () => this.stepRows(by, isEvery))) {
+            this.seek(row < 0 ? 0 : length, 'packet');
+        }
     }
 
     /**

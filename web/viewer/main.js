@@ -18,6 +18,8 @@ import { ListPanel } from './panels/list_panel.js';
 import { Out } from './panels/saving.js';
 import { PacketPanel } from './panels/packet_panel.js';
 import { PacketEditor } from './changing/packet_editor.js';
+import { filesOf } from './parts/dropped.js';
+import { wireParts } from './parts/parts.js';
 import { PalettePanel } from './panels/palette_panel.js';
 import { PixelPanel } from './panels/pixel_panel.js';
 import { Receiver } from './reading/receiver.js';
@@ -41,17 +43,15 @@ function wireFiles({ receiver, compare }) {
     const names = [...caseNames, ...Object.keys(examples)];
     makeMenu(element('examples'), names.map(name => ({ text: name, does: () => openExample(name) })));
     element('open').addEventListener('change', ({ target }) => {
-        const [file] = target.files;
-        if (file) receiver.open(file, file.name);
+        receiver.openAll([...target.files]);
         target.value = '';
     });
     addEventListener('dragover', event => { event.preventDefault(); document.body.classList.add('over'); });
     addEventListener('dragleave', event => { if (!event.relatedTarget) document.body.classList.remove('over'); });
-    addEventListener('drop', event => {
+    addEventListener('drop', async event => {
         event.preventDefault();
         document.body.classList.remove('over');
-        const [file] = event.dataTransfer.files;
-        if (file) receiver.open(file, file.name, { isDropped: true });
+        receiver.openAll(await filesOf(event.dataTransfer), { isDropped: true });
     });
     return openExample;
 }
@@ -124,7 +124,8 @@ export async function main() {
     wireFolds();
     wireSplits();
     wireNote(app);
-    const receiver = new Receiver(app, compare), openExample = wireFiles({ receiver, compare });
+    wireParts(app);
+    const receiver = new Receiver(app, views, compare), openExample = wireFiles({ receiver, compare });
     out.follower = new Follower(app, views, openExample);
     if (caseNames.length && !out.follower.namesExample) openExample(caseNames[0]);
     app.warmUp();

@@ -57,7 +57,7 @@ export class ComparePanel {
             this.forget();
             if (recording) await this.second.open(recording);
             else {
-                app.difference = new Difference(await readDump(file), name);
+                app.difference = Object.assign(new Difference(await readDump(file), name), { source: file });
                 app.show();
             }
         } catch (fault) {

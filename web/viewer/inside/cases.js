@@ -5,7 +5,7 @@ import { placeHere } from '../panels/link.js';
 import { bytesOfText, gzipped, textOfBytes, unpacked } from './packed.js';
 import { CASES, pageWith } from './page_source.js';
 
-// Bytes of a packed recording: browsers take no longer texts.
+// Bytes of a packed recording: with its base64, the page has to be one string of a browser.
 const MOST = 2 ** 28;
 
 /** The names of the cases. */
@@ -42,14 +42,14 @@ export function wireNote(app) {
 }
 
 /**
- * Returns this page with what is open inside. It opens at what is seen now.
+ * Returns this page with what is open inside, and what it is compared with. It opens at what is seen now.
  * @param {App} app
  * @param {Views} views
  * @returns {Promise<string>}
  * @throws {Error} if the recording has a fault, is changed (events of a changed capture have other numbers), or is too long
  */
 export async function pageOfThis(app, views) {
-    const { recording, beside } = app, second = beside?.second?.recording;
+    const { recording, beside, difference } = app, second = beside ? beside.second?.recording : difference;
     if (recording.isPart) throw new Error('the recording has a fault: make it whole first (psxgpu mend)');
     if (app.whatIf.count !== 0) throw new Error('packets are changed: save the changed capture, open it, then save the page');
     const files = await Promise.all([recording, ...(second ? [second] : [])].map(fileOf));

@@ -91,6 +91,7 @@ export class Follower {
 
     show(recording, link) {
         const { app, views } = this;
+        if (link.has('event') && app.parts?.takes(link)) return;
         const texture = numbersOf(link.get('texture'), 5), cell = numbersOf(link.get('cell'), 2);
         const zoom = numbersOf(link.get('zoom'), 3) ?? numbersOf(link.get('zoom'), 1), view = link.get('view');
         if (cell) app.choose({ x: cell[0] & 1023, y: cell[1] & (recording.height - 1) });

@@ -9,7 +9,8 @@ import { lastUpTo } from '../numbers.js';
 export class Timeline {
     constructor(app) {
         Object.assign(this, { app, timer: null });
-        const go = { start: () => app.seek(0, 'frame'), end: () => app.seek(app.recording?.length ?? 0, 'frame'),
+        const go = { start: () => app.parts?.toStart() || app.seek(0, 'frame'),
+            end: () => app.parts?.toEnd() || app.seek(app.recording?.length ?? 0, 'frame'),
             back: isEvery => app.stepRows(-1, isEvery), on: isEvery => app.stepRows(1, isEvery),
             'frame-back': () => this.stepFrames(-1), 'frame-on': () => this.stepFrames(1) };
         for (const button of document.querySelectorAll('[data-go]')) {
@@ -29,7 +30,7 @@ export class Timeline {
 
     opened() {
         const { recording } = this.app;
-        this.pause();
+        if (!recording.parts) this.pause();
         element('time').max = recording.length;
         element('frames').value = this.app.framesBy;
         this.draw();
@@ -54,7 +55,7 @@ export class Timeline {
 
     goToEvent(text) {
         const { app } = this, field = element('event');
-        if (!app.recording) return;
+        if (!app.recording || app.parts?.goTo(text)) return;
         try {
             const steps = stepsAt(app.recording, text);
             if (addressOf(app.recording, app.at) !== text.trim()) app.seek(steps, 'packet');
@@ -77,7 +78,10 @@ export class Timeline {
     stepFrames(by) {
         const { app } = this, frames = app.starts, at = lastUpTo(frames, app.at - 1);
         const isAtMark = at >= 0 && frames[at] === app.at - 1;
-        const to = by > 0 ? at + 1 : isAtMark ? at - 1 : at;
+        const to = by > 0 ? at + 1 : isAtMark ? at - 1 : at, isOutside = to < 0 || to >= frames.length;
+        // Parts end with frames: from within a part, the frame before its first one ends where the part before does.
+        const step = () => this.stepFrames(by), isWithin = by < 0 && app.at > 0;
+        if (isOutside && app.parts?.cross(by, isWithin ? () => {} : step)) return;
         app.seek(to < 0 ? 0 : to >= frames.length ? app.recording?.length : frames[to] + 1, 'frame');
     }
 
@@ -87,7 +91,7 @@ export class Timeline {
     play() {
         const { app } = this;
         if (!app.recording) return;
-        if (app.at > (app.starts.at(-1) ?? -1)) app.seek(0, 'frame');
+        if (app.at > (app.starts.at(-1) ?? -1) && !app.parts?.hasNext) app.seek(0, 'frame');
         element('play').textContent = 'Pause';
         let due = performance.now();
         const next = now => {
@@ -95,7 +99,8 @@ export class Timeline {
                 due = Math.max(due + 1000 / Number(element('rate').value), now - 100);
                 this.stepFrames(1);
             }
-            if (app.at >= app.recording.length) this.pause(); else this.timer = requestAnimationFrame(next);
+            if (app.at >= app.recording.length && !app.parts?.hasNext) this.pause();
+            else this.timer = requestAnimationFrame(next);
         };
         this.timer = requestAnimationFrame(next);
     }

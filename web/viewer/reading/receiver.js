@@ -1,14 +1,33 @@
-// Takes the files that a reader chooses or drops: recordings are opened, and for pictures and dumps Compare is offered.
+// Takes the files that a reader chooses or drops: recordings are opened, also in parts; for pictures and dumps, Compare
+// is offered.
 
-import { element } from '../panels/dom.js';
+import { counted, element } from '../panels/dom.js';
+import { Parts } from '../parts/parts.js';
+import { recordingsOf, whyNotParts } from '../parts/part_files.js';
 import { pictureKind } from './file_kind.js';
 
 export class Receiver {
     /**
      * @param {App} app
+     * @param {Views} views
      * @param {ComparePanel} compare
      */
-    constructor(app, compare) { Object.assign(this, { app, compare }); }
+    constructor(app, views, compare) { Object.assign(this, { app, views, compare }); }
+
+    /**
+     * Takes files that are chosen or dropped together: one, or the parts of one recording. Files that are no recordings
+     * are left out.
+     * @param {File[]} files
+     * @param {object} from as for `open`
+     */
+    async openAll(files, from = {}) {
+        if (files.length < 2) return files[0] && this.open(files[0], files[0].name, from);
+        const found = await recordingsOf(files), why = whyNotParts(found);
+        if (found.length === 1) return this.open(found[0].file, found[0].name, from);
+        if (found.length === 0) this.app.warn(`None of these ${counted(files.length, 'files')} is a recording.`);
+        else if (why) this.app.warn(`These are not the parts of one recording: ${why}. Drop one file to open it.`);
+        else await new Parts(this.app, this.views, found).open(found.length - 1);
+    }
 
     /**
      * @param {Blob} file
