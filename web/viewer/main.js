@@ -7,6 +7,8 @@ import { addressOf } from './playing/address.js';
 import { Keys } from './panels/keys.js';
 import { FrameTable } from './costs/frame_table.js';
 import { wireFolds, wireTheme } from './kept.js';
+import { GrowingLine } from './growing/growing_line.js';
+import { droppedHandle, wirePicker } from './growing/handles.js';
 import { caseNames, openCase, wireNote } from './inside/cases.js';
 import { bytesOfText } from './inside/packed.js';
 import { Follower } from './panels/link.js';
@@ -26,10 +28,10 @@ import { Views } from './views/views.js';
 
 // Opens files: those that are chosen or dropped, the cases inside the page, and the examples. Returns how a case or an
 // example is opened by its name.
-function wireFiles({ receiver, compare }) {
+function wireFiles({ receiver, compare, growing }) {
     const examples = JSON.parse(element('example-files').textContent);
     const openExample = name => {
-        if (openCase({ receiver, compare }, name)) return true;
+        if (openCase({ receiver, compare, growing }, name)) return true;
         if (!Object.hasOwn(examples, name)) return false;
         receiver.open(new Blob([bytesOfText(examples[name])]), `${name}.capture`, { example: name });
         return true;
@@ -41,13 +43,14 @@ function wireFiles({ receiver, compare }) {
         if (file) receiver.open(file, file.name);
         target.value = '';
     });
+    wirePicker(element('open'), (file, from) => receiver.open(file, file.name, from));
     addEventListener('dragover', event => { event.preventDefault(); document.body.classList.add('over'); });
     addEventListener('dragleave', event => { if (!event.relatedTarget) document.body.classList.remove('over'); });
     addEventListener('drop', event => {
         event.preventDefault();
         document.body.classList.remove('over');
-        const [file] = event.dataTransfer.files;
-        if (file) receiver.open(file, file.name, { isDropped: true });
+        const [file] = event.dataTransfer.files, handle = droppedHandle(event.dataTransfer);
+        if (file) receiver.open(file, file.name, { isDropped: true, handle });
     });
     return openExample;
 }
@@ -70,11 +73,12 @@ function wireSaid(app) {
         element('work-text').textContent = app.working.text;
     });
     element('stop').addEventListener('click', () => app.working?.stop?.());
-    app.on('opened', () => {
-        const { name, what, length, flips, marks, isPart } = app.recording;
+    app.on('opened grown rested', () => {
+        const { name, what, length, flips, marks, isPart, isGrowing } = app.recording;
         const counts = { steps: length, frames: app.frames, flips: flips.length, marks: marks.length };
         const parts = [what, ...Object.entries(counts).map(([what, count]) => counted(count, what))];
-        const text = `${name}${isPart ? ', up to its fault' : ''}: ${parts.join(', ')}`;
+        const state = isGrowing ? ', growing' : isPart ? ', up to its fault' : '';
+        const text = `${name}${state}: ${parts.join(', ')}`;
         Object.assign(element('file'), { textContent: text, title: text });
         document.title = `${name}: Valerianpane`;
     });
@@ -117,11 +121,12 @@ export async function main() {
     wireFolds();
     wireSplits();
     wireNote(app);
-    const receiver = new Receiver(app, compare), openExample = wireFiles({ receiver, compare });
+    const receiver = new Receiver(app, compare), growing = new GrowingLine(app);
+    const openExample = wireFiles({ receiver, compare, growing });
     out.follower = new Follower(app, views, openExample);
     if (caseNames.length && !out.follower.namesExample) openExample(caseNames[0]);
     app.warmUp();
-    return { app, list, views, pixel, timeline, out, compare, receiver, table, memory };
+    return { app, list, views, pixel, timeline, out, compare, receiver, table, memory, growing };
 }
 
 // Settled when the page can be used: the checks wait for it.

@@ -49,6 +49,7 @@ export class PixelPanel {
         app.on('moved', () => { this.draw(); this.list.reveal(this.current()); });
         app.on('cell', () => { this.draw(); this.look(); });
         app.on('ahead', () => { if (this.waits && app.pass.isDone()) this.look(); });
+        app.on('rested', () => this.look());
         this.draw();
     }
 

@@ -24,6 +24,7 @@ export class Timeline {
         this.marks = new Marks(app);
         app.on('opened', () => this.opened());
         app.on('moved', () => this.draw());
+        app.on('grown', () => this.grown());
         app.on('ahead', () => { if (app.pass.isDone()) this.draw(); });
     }
 
@@ -31,6 +32,12 @@ export class Timeline {
         const { recording } = this.app;
         this.pause();
         element('time').max = recording.length;
+        element('frames').value = this.app.framesBy;
+        this.draw();
+    }
+
+    grown() {
+        element('time').max = this.app.recording.length;
         element('frames').value = this.app.framesBy;
         this.draw();
     }
