@@ -9,7 +9,10 @@ const TAIL = 4096;
 /** An iterator that waits for bytes, and never ends. */
 export class NewBytes {
     /** @param {Served | Watched | Chosen} source */
-    constructor(source) { Object.assign(this, { source, at: 0, tail: new Uint8Array(0), file: new Blob([]), parts: [] }); }
+    constructor(source) {
+        Object.assign(this, { source, at: 0, tail: new Uint8Array(0), file: new Blob([]), parts: [] });
+        source.seen = '';       // the first look is at the whole file, though nothing may be new
+    }
 
     [Symbol.asyncIterator]() { return this; }
 
