@@ -50,7 +50,7 @@ def kept(data: bytes) -> str:
 
 
 def open_page(path: str) -> None:
-    """Opens a page in the user's browser. Raises ToolError, which names the page, if nothing opens it."""
+    """Opens a page in the user's browser: a file or an address. Raises ToolError, which names the page, if nothing opens it."""
     opener = OPENERS.get(sys.platform, ['xdg-open'])
     if not shutil.which(opener[0]):
         raise ToolError('there is no %s: open %s in a browser' % (opener[0], path))

@@ -1,8 +1,9 @@
 // What is open, and the place that is shown. The panels listen: 'opened', 'arrived' (an opened recording is at its last
 // frame), 'moved' (another place), 'cell' (another cell is chosen), 'texture' (another page is chosen), 'second' (a
 // recording beside this one), 'goto' (show what differs), 'ahead' (the pass has played on), 'work' (its progress) and
-// 'said' (a line), 'costs' (more frames are counted), 'compared' (what differs is shown in another way) and 'changed' (a
-// packet was changed; a 'moved' comes after it).
+// 'said' (a line), 'costs' (more frames are counted), 'compared' (what differs is shown in another way), 'changed' (a packet
+// was changed; a 'moved' comes after it), 'grown' (there is more of the recording) and 'rested' (it has not grown for a
+// while).
 
 import { adviceOf } from './reading/advice.js';
 import { Ahead } from './playing/ahead.js';
@@ -91,7 +92,8 @@ export class App extends EventTarget {
         if (!fault.before?.length) return null;
         const event = fault.before.eventAt(fault.before.length);
         return { text: `Open what is before it (up to event ${event})`,
-            does: () => this.adopt(Object.assign(fault.before, { source: blob, isPart: true, ...from })) };
+            does: () => this.adopt(Object.assign(fault.before,
+                { source: blob, isPart: true, isCut: fault.cause === 'truncated', ...from })) };
     }
 
     work(text, part = 0, stop = null) {

@@ -8,6 +8,8 @@ import { addressOf } from './playing/address.js';
 import { Keys } from './panels/keys.js';
 import { FrameTable } from './costs/frame_table.js';
 import { wireFolds, wireTheme } from './kept.js';
+import { GrowingLine } from './growing/growing_line.js';
+import { droppedHandle, wirePicker } from './growing/handles.js';
 import { caseNames, openCase, wireNote } from './inside/cases.js';
 import { bytesOfText } from './inside/packed.js';
 import { Follower } from './panels/link.js';
@@ -32,10 +34,10 @@ import { wireBoxes } from './changing/list_box.js';
 
 // Opens files: those that are chosen or dropped, the cases inside the page, and the examples. Returns how a case or an
 // example is opened by its name.
-function wireFiles({ receiver, compare }) {
+function wireFiles({ receiver, compare, growing }) {
     const examples = JSON.parse(element('example-files').textContent);
     const openExample = name => {
-        if (openCase({ receiver, compare }, name)) return true;
+        if (openCase({ receiver, compare, growing }, name)) return true;
         if (!Object.hasOwn(examples, name)) return false;
         receiver.open(new Blob([bytesOfText(examples[name])]), `${name}.capture`, { example: name });
         return true;
@@ -46,12 +48,14 @@ function wireFiles({ receiver, compare }) {
         receiver.openAll([...target.files]);
         target.value = '';
     });
+    wirePicker(element('open'), (files, from) => receiver.openAll(files, from));
     addEventListener('dragover', event => { event.preventDefault(); document.body.classList.add('over'); });
     addEventListener('dragleave', event => { if (!event.relatedTarget) document.body.classList.remove('over'); });
     addEventListener('drop', async event => {
         event.preventDefault();
         document.body.classList.remove('over');
-        receiver.openAll(await filesOf(event.dataTransfer), { isDropped: true });
+        const handle = droppedHandle(event.dataTransfer);
+        receiver.openAll(await filesOf(event.dataTransfer), { isDropped: true, handle });
     });
     return openExample;
 }
@@ -74,11 +78,12 @@ function wireSaid(app) {
         element('work-text').textContent = app.working.text;
     });
     element('stop').addEventListener('click', () => app.working?.stop?.());
-    app.on('opened', () => {
-        const { name, what, length, flips, marks, isPart } = app.recording;
+    app.on('opened grown rested', () => {
+        const { name, what, length, flips, marks, isPart, isGrowing } = app.recording;
         const counts = { steps: length, frames: app.frames, flips: flips.length, marks: marks.length };
         const parts = [what, ...Object.entries(counts).map(([what, count]) => counted(count, what))];
-        const text = `${name}${isPart ? ', up to its fault' : ''}: ${parts.join(', ')}`;
+        const state = isGrowing ? ', growing' : isPart ? ', up to its fault' : '';
+        const text = `${name}${state}: ${parts.join(', ')}`;
         Object.assign(element('file'), { textContent: text, title: text });
         document.title = `${name}: Valerianpane`;
     });
@@ -125,11 +130,12 @@ export async function main() {
     wireSplits();
     wireNote(app);
     wireParts(app);
-    const receiver = new Receiver(app, views, compare), openExample = wireFiles({ receiver, compare });
+    const receiver = new Receiver(app, views, compare), growing = new GrowingLine(app);
+    const openExample = wireFiles({ receiver, compare, growing });
     out.follower = new Follower(app, views, openExample);
     if (caseNames.length && !out.follower.namesExample) openExample(caseNames[0]);
     app.warmUp();
-    return { app, whatIf, list, views, pixel, timeline, out, compare, receiver, table, memory };
+    return { app, whatIf, list, views, pixel, timeline, out, compare, receiver, table, memory, growing };
 }
 
 // Settled when the page can be used: the checks wait for it.

@@ -81,7 +81,7 @@ export class SamePlace {
 
     // For each row here, the last row there that is beside it or before it; -1 for none.
     align({ recording, starts }, there, frame, rows) {
-        const key = `${recording.edition} ${frame} ${starts.length} ${there.starts.length}`;
+        const key = `${recording.edition} ${frame} ${rows.end} ${starts.length} ${there.starts.length}`;
         if (key === this.key && recording === this.recording && there.recording === this.other) return;
         const last = new Int32Array(rows.end - rows.first).fill(-1);
         const pairs = aligned(recording, rows, there.recording, rowsOfFrame(there.recording, there.starts, frame));

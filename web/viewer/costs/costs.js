@@ -19,8 +19,9 @@ export class Costs {
      * @param {Recording} recording
      * @param {number[]} ends the steps that end frames
      * @param {object} library
+     * @param {Costs | null} before what was counted before the recording has grown
      */
-    constructor(recording, ends, library) {
+    constructor(recording, ends, library, before = null) {
         const count = ends.length + 1;
         Object.assign(this, { recording, ends, library, count, isStopped: false });
         this.packets = new Uint32Array(count);
@@ -32,7 +33,17 @@ export class Costs {
          * they are not counted yet. */
         this.texels = new Float64Array(count).fill(NOT_COUNTED);
         this.blended = new Float64Array(count).fill(NOT_COUNTED);
-        for (let frame = 0; frame < count; frame++) this.countPackets(frame);
+        const known = before?.recording === recording && before.ends === ends ? this.takeOver(before) : 0;
+        for (let frame = known; frame < count; frame++) this.countPackets(frame);
+    }
+
+    // Takes what was counted of the frames that were whole. Returns how many these are.
+    takeOver(before) {
+        const known = Math.min(before.count - 1, this.count);
+        for (const name of ['packets', 'drawn', 'loaded', 'texels', 'blended']) {
+            this[name].set(before[name].subarray(0, known));
+        }
+        return known;
     }
 
     rowsOf(frame) { return rowsOfFrame(this.recording, this.ends, frame); }

@@ -26,7 +26,7 @@ export class MemoryPanel {
         });
         element('uploads-of').addEventListener('change', () => this.draw());
         element('memory-box').addEventListener('toggle', () => this.look());
-        app.on('opened changed', () => { this.forget(); this.look(); });
+        app.on('opened changed rested', () => { this.forget(); this.look(); });
         app.on('ahead', () => { if (app.pass.isDone()) this.look(); });
     }
 
@@ -41,7 +41,7 @@ export class MemoryPanel {
     look() {
         const { app } = this;
         if (!element('memory-box').open || !app.recording || this.usage) return;
-        if (!app.pass.isDone()) {
+        if (!app.pass.isDone() || app.recording.isGrowing) {
             element('uploads-said').textContent = 'Shown when all is played.';
             return;
         }

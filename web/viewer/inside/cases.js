@@ -2,6 +2,7 @@
 
 import { element } from '../panels/dom.js';
 import { placeHere } from '../panels/link.js';
+import { Served } from '../growing/sources.js';
 import { bytesOfText, gzipped, textOfBytes, unpacked } from './packed.js';
 import { CASES, pageWith } from './page_source.js';
 
@@ -12,15 +13,16 @@ const MOST = 2 ** 28;
 export const caseNames = CASES.map(({ name }) => name);
 
 /**
- * Opens a case: its recording at its place, and a second one beside it if it has two. Only links of a page with several
- * cases name them.
- * @param {{receiver: Receiver, compare: ComparePanel}} page
+ * Opens a case: its recording at its place, and a second one beside it if it has two. Without a recording, it is the file
+ * that the server of the page follows. Only links of a page with several cases name them.
+ * @param {{receiver: Receiver, compare: ComparePanel, growing: GrowingLine}} page
  * @param {string} name
  * @returns {boolean} whether there is such a case
  */
 export function openCase(page, name) {
     const found = CASES.find(one => one.name === name);
-    if (found) openFiles(page, found, CASES.length > 1 ? { example: name } : {});
+    if (found?.files.length === 0) page.growing.start(new Served('bytes'), name, { place: found.place, note: found.note });
+    else if (found) openFiles(page, found, CASES.length > 1 ? { example: name } : {});
     return Boolean(found);
 }
 

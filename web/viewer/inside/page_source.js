@@ -23,7 +23,8 @@ function takeCases() {
 /** @type {Case[]} */
 export const CASES = takeCases();
 
-const EMPTY = `<!doctype html>\n${document.documentElement.outerHTML}\n`;
+// A page that is saved asks no server, as this one may do (`psxgpu view --follow`).
+const EMPTY = `<!doctype html>\n${document.documentElement.outerHTML}\n`.replace(" connect-src 'self';", '');
 
 /**
  * Returns a page that is this one, with other cases inside. No text of a case can end the element that holds it.

@@ -38,6 +38,8 @@ export class ListPanel {
             current: () => this.indexOf(app.row ?? -1),
         });
         app.on('opened', () => this.opened());
+        app.on('grown', () => this.grown());
+        app.on('rested', () => { this.measure(); this.search(); });
         app.on('moved', () => this.moved());
         app.on('changed', () => this.changed());
         app.on('ahead', () => this.list.draw());
@@ -73,11 +75,24 @@ export class ListPanel {
     indexOf(row) { return this.shown ? lastUpTo(this.shown, row) : row; }
 
     opened() {
+        this.measure();
+        this.list.offset = 0;
+        this.search();
+    }
+
+    // Makes the columns as wide as their texts.
+    measure() {
         const { recording } = this.app, { style } = element('list');
         style.setProperty('--number', `${longestAddress(recording)}ch`);
         style.setProperty('--name', `${longestName(recording)}ch`);
-        this.list.offset = 0;
-        this.search();
+        this.measured = recording.rows.length;
+    }
+
+    // There are more rows. A search or filter has them when the recording rests.
+    grown() {
+        if (this.app.recording.rows.length > 2 * this.measured) this.measure();
+        if (!this.shown) this.list.changed();
+        this.tellFound();
     }
 
     search() {

@@ -20,7 +20,7 @@ export class Marks {
         Object.assign(this, { app, canvas: element('marks'), costs: null, bars: null });
         new ResizeObserver(() => this.resize()).observe(this.canvas);
         this.resize();
-        app.on('opened changed', () => this.count());
+        app.on('opened changed grown rested', () => this.count());
         app.on('ahead', () => { if (app.pass.isDone()) this.count(); else this.draw(); });
         app.on('moved', () => this.draw());
         matchMedia('(prefers-color-scheme: dark)').addEventListener('change', () => this.repaint());
@@ -32,9 +32,9 @@ export class Marks {
     count() {
         const { recording, starts, pass, library, ahead } = this.app;
         this.costs?.stop();
-        const costs = this.costs = recording && new Costs(recording, starts, library);
+        const costs = this.costs = recording && new Costs(recording, starts, library, this.costs);
         this.repaint();
-        if (!pass?.isDone()) return;
+        if (!pass?.isDone() || recording.isGrowing) return;
         this.waits = () => performance.now() - ahead.touched < CALM;
         costs.run(this.waits, () => { if (costs === this.costs) this.counted(); });
     }
@@ -71,7 +71,7 @@ export class Marks {
         if (!costs || frame < 0) return '';
         if (app.frames === 0) return 'no frame: there is no packet';
         const packets = counted(costs.packets[frame], 'packets');
-        if (app.pass.isDone()) costs.countNow(frame);
+        if (app.pass.isDone() && !app.recording.isGrowing) costs.countNow(frame);
         const loaded = costs.loaded[frame] ? `, ${grouped(costs.loaded[frame])} loaded` : '';
         const cells = costs.isCounted(frame) ? `, ${grouped(costs.drawn[frame])} cells drawn${loaded}` : '';
         return `frame ${grouped(frame + 1)} of ${grouped(app.frames)}: ${packets}${cells}`;

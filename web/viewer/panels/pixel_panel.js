@@ -50,6 +50,7 @@ export class PixelPanel {
         app.on('cell', () => { this.draw(); this.look(); });
         app.on('changed', () => this.look());
         app.on('ahead', () => { if (this.waits && app.pass.isDone()) this.look(); });
+        app.on('rested', () => this.look());
         this.draw();
     }
 

@@ -25,6 +25,7 @@ export class Timeline {
         this.marks = new Marks(app);
         app.on('opened', () => this.opened());
         app.on('moved', () => this.draw());
+        app.on('grown', () => this.grown());
         app.on('ahead', () => { if (app.pass.isDone()) this.draw(); });
     }
 
@@ -32,6 +33,12 @@ export class Timeline {
         const { recording } = this.app;
         if (!recording.parts) this.pause();
         element('time').max = recording.length;
+        element('frames').value = this.app.framesBy;
+        this.draw();
+    }
+
+    grown() {
+        element('time').max = this.app.recording.length;
         element('frames').value = this.app.framesBy;
         this.draw();
     }

@@ -7,10 +7,12 @@ import { playOther, toStart } from './player.js';
 
 // Milliseconds that a slice is to be played in, and how many steps it has at least and at most.
 const WANTED = 16, LEAST = 16384, MOST = 65536;
+// The first slice; states that are kept are not nearer.
+const FIRST = 4096;
 
 export class Pass {
     constructor(recording, machine) {
-        Object.assign(this, { recording, machine, at: 0, row: 0, slice: 4096, count: 0, every: 1 });
+        Object.assign(this, { recording, machine, at: 0, row: 0, slice: FIRST, count: 0, every: 1, keptAt: -FIRST });
         toStart(machine, recording);
     }
 
@@ -19,7 +21,7 @@ export class Pass {
     // Plays the next slice.
     turn() {
         const { machine, recording } = this;
-        this.keep(machine.stateView());
+        this.keep(machine);
         const started = performance.now();
         this.play(Math.min(this.at + this.slice, recording.length));
         this.fit(performance.now() - started);
@@ -32,10 +34,11 @@ export class Pass {
     }
 
     // Keeps a state, or every second, fourth .. where they would be too many.
-    keep(state) {
+    keep(machine) {
         const { keyframes } = this.recording;
-        if (this.count++ % this.every !== 0 || keyframes.isKept(this.at)) return;
-        keyframes.add(this.at, state);
+        if (this.at - this.keptAt < FIRST || this.count++ % this.every !== 0 || keyframes.isKept(this.at)) return;
+        this.keptAt = this.at;
+        keyframes.add(this.at, machine.stateView());
         if (!keyframes.isFull) return;
         keyframes.thin();
         this.every *= 2;
@@ -47,7 +50,7 @@ export class Pass {
         if (this.at <= step) return;
         if (last < 0) toStart(machine, this.recording); else machine.load(keyframes.bytes(last));
         this.at = last < 0 ? 0 : keyframes.stepOf(last);
-        this.count = Math.max(0, last) * this.every;
+        Object.assign(this, last < 0 ? { count: 0, keptAt: -FIRST } : { count: last * this.every + 1, keptAt: this.at });
         this.row = rows.at(this.at) + 1;
         for (let row = this.row; row < end; row++) if (rows.isPacket(row)) rows.near[row] = NOT_YET;
     }

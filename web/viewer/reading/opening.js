@@ -12,8 +12,8 @@ import { Recording } from './recording.js';
 import { RecordReader, headOf } from './reader.js';
 import { Refusal } from './refusal.js';
 
-// The most bytes of a snapshot's state.
-const STATE = 4194564;
+// The most bytes of a snapshot's state, and of what is before its memories.
+const STATE = 4194564, FRONT = 264;
 const HEAD = 8;
 // Milliseconds of work between two breaths of the page.
 const BREATH = 50;
@@ -41,7 +41,11 @@ async function streamOf(blob, taken) {
  * `about.isDump` says then whether it is one.
  */
 export async function* bytesOf(blob, taken = () => {}, about = {}) {
-    const pieces = unpackedOf(blob, taken);
+    yield* captureBytes(unpackedOf(blob, taken), about);
+}
+
+/** The same of a file that is not packed, whose bytes are `pieces`. */
+export async function* captureBytes(pieces, about) {
     try {
         const first = await gather(pieces, new Uint8Array(0), DUMP_HEADER);
         about.isDump = isDump(first);
@@ -150,8 +154,8 @@ function begin(name, bytes, library) {
  */
 export async function openFile(blob, name, library, { progress = () => {}, signal = null } = {}) {
     const about = {}, pieces = bytesOf(blob, count => progress(count / blob.size), about);
-    const started = await start(name, pieces, library);
-    const { recording, sink, answers } = started;
+    const started = await startReading(name, pieces, library);
+    const { recording, answers } = started;
     recording.isDump = about.isDump;
     try {
         await takeAll(started, pieces, signal);
@@ -161,15 +165,27 @@ export async function openFile(blob, name, library, { progress = () => {}, signa
     } finally {
         answers.close();
         pieces.return();
-        recording.splitter.feed();
-        Object.assign(recording, { needsMemory: sink.needsMemory, transfers: sink.transfers });
+        settle(started);
     }
     return recording;
 }
 
-async function start(name, pieces, library) {
+/** Gives a recording what was read of it: its rows, and what DMA did. */
+export function settle({ recording, sink }) {
+    recording.splitter.feed();
+    Object.assign(recording, { needsMemory: sink.needsMemory, transfers: sink.transfers });
+}
+
+/**
+ * Begins to read a recording: its first eight bytes, and the state of a snapshot. The records are for `records.push`, first
+ * those in `rest`.
+ */
+export async function startReading(name, pieces, library) {
     let bytes = await gather(pieces, new Uint8Array(0), HEAD);
-    if (headOf(bytes) === 'PSXGPUS1') bytes = await gather(pieces, bytes, STATE);
+    if (headOf(bytes) === 'PSXGPUS1') {
+        bytes = await gather(pieces, bytes, FRONT);
+        bytes = await gather(pieces, bytes, Math.min(STATE, outlineOf(bytes).size));
+    }
     const started = begin(name, bytes, library);
     return { ...started, rest: bytes.subarray(started.records.place) };
 }

@@ -23,7 +23,7 @@ export class Receiver {
     async openAll(files, from = {}) {
         if (files.length < 2) return files[0] && this.open(files[0], files[0].name, from);
         const found = await recordingsOf(files), why = whyNotParts(found);
-        if (found.length === 1) return this.open(found[0].file, found[0].name, from);
+        if (found.length === 1) return this.open(found[0].file, found[0].name, { ...from, handle: null });
         if (found.length === 0) this.app.warn(`None of these ${counted(files.length, 'files')} is a recording.`);
         else if (why) this.app.warn(`These are not the parts of one recording: ${why}. Drop one file to open it.`);
         else await new Parts(this.app, this.views, found).open(found.length - 1);
