@@ -90,8 +90,9 @@ def source_units(experiment: Experiment, dump: bytes) -> List[Unit]:
     return out
 
 
-def started(reducer: Reducer, bench: Bench, experiment: Experiment) -> bool:
-    """Starts from loads of what the packets read, or else from all of video memory. Returns whether it differs."""
+def started(reducer: Reducer, bench: Bench, experiment: Experiment, is_small: bool) -> bool:
+    """Starts from loads of what the packets read, or else from all of video memory, unless `is_small`. Returns whether
+    it differs."""
     drawn = [Unit(name_of(packet), packet) for packet in drawing(experiment)]
     settings = registers_of(experiment[:len(experiment) - len(drawn)])
     loads = source_units(experiment, bench.dump)
@@ -106,7 +107,9 @@ def started(reducer: Reducer, bench: Bench, experiment: Experiment) -> bool:
         words = [word for packet in experiment[:len(experiment) - len(drawn) + events] for word in packet]
         data = HEAD + bench.start.tobytes() + encode(GP0, len(words), words) + END
         return expect_dump(bench.ours, data, bench.seconds)
-    return len(drawn) == 1 and reducer.start([placed[0]._replace(events=1)], lambda events: bench.dump) is not None
+    if is_small or len(drawn) > 1:
+        return False
+    return reducer.start([placed[0]._replace(events=1)], lambda events: bench.dump) is not None
 
 
 def cut_data(reducer: Reducer) -> None:
@@ -129,7 +132,10 @@ def reduce_kind(bench: Bench, experiment: Experiment, look: str, needs: Facts) -
     """Returns the kind of an experiment, and the files and packets of its smallest capture; None if it is not shown
     alone. It may look otherwise on cells of 0. If it then looks otherwise on the ground, it was another difference. So
     it has to look the same. At last it is no pair: other differences of the packet may hinder that."""
+    best: Optional[Found] = None
     for is_strict, chosen in ((False, needs), (True, needs), (False, needs - set(FEATURES))):
+        if best and not is_strict:
+            break
         prober = KindProber(bench, look, needs)
         prober.name = name_of(experiment[-1])
         if is_strict:
@@ -140,7 +146,7 @@ def reduce_kind(bench: Bench, experiment: Experiment, look: str, needs: Facts) -
             prober.fault = Pair(DumpsDiffer(), ())
         try:
             reducer = Reducer(prober, False)
-            if not started(reducer, bench, experiment):
+            if not started(reducer, bench, experiment, is_strict):
                 continue
             cut_data(reducer)
             begun = reducer.units
@@ -154,12 +160,9 @@ def reduce_kind(bench: Bench, experiment: Experiment, look: str, needs: Facts) -
         if found is None:
             continue
         small = tuple(unit.words for unit in reducer.units)
-        if not is_strict and chosen == needs and similar(look).isdisjoint(bench.judge([packed(small)])[0].looks):
-            continue
         kind = kind_of(small, look, needs)
         kind.lines = report_lines(found)[1:]
-        return kind, list(files_of(found, kind.label, ['theirs: ' + bench.theirs.text])), small
-    return None
-
-
-
+        best = kind, list(files_of(found, kind.label, ['theirs: ' + bench.theirs.text])), small
+        if is_strict or chosen != needs or bench.judge([packed(small)])[0].looks & similar(look):
+            return best
+    return best
