@@ -70,6 +70,22 @@ def history(page, x, y):
     })()''' % (x, y))
 
 
+def changed(page):
+    """Milliseconds from leaving a packet out near the end until the view shows it, in order from the least."""
+    out = []
+    for back in range(5, 95, 10):
+        out.append(page.evaluate('''(() => {
+            const { app } = probe, { rows } = app.recording, { isDrawing } = module_stepping;
+            let row = Math.max(0, rows.length - %d);
+            while (row > 0 && !isDrawing(rows, row)) row--;
+            app.seekRow(row);
+            const began = performance.now();
+            app.whatIf.toggle(row);
+            return performance.now() - began; })()''' % back))
+        page.until('probe.app.goal < 0 && probe.app.pass.isDone() && !probe.app.pass.isRunning', 600)
+    return sorted(out)
+
+
 def measure(page, path):
     """Prints the times of one recording."""
     shown, there, played = opened(page, path)
@@ -83,6 +99,8 @@ def measure(page, path):
           % (places[50], places[-1], back[50], back[-1]))
     for x, y in CELLS:
         print('  history of (%d, %d): first after %d ms, all after %d ms, %d changes' % (x, y, *history(page, x, y)))
+    late = changed(page)
+    print('  a change near the end: %d ms in the middle, %d at most' % (late[4], late[-1]))
     print('  %d states of %d MB, %d MB in all' % tuple(page.ask('kept')), flush=True)
 
 

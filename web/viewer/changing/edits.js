@@ -25,7 +25,8 @@ function cut({ steps }, words) {
 
 // Whether two cuts have their rows at the same places and end alike.
 const isAlike = (a, b) => a.rows.length === b.rows.length && a.end.every((part, k) => part === b.end[k])
-    && ['first', 'done'].every(name => a.rows[name].subarray(0, a.rows.length).every((step, k) => step === b.rows[name][k]));
+    && ['first', 'done'].every(name => [...a.rows[name].subarray(0, a.rows.length).keys()]
+        .every(row => a.rows[name][row] === b.rows[name][row]));
 
 export class Edits {
     /** @param {Recording} recording */

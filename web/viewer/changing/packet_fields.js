@@ -94,7 +94,8 @@ function settingFields(opcode, height) {
     switch (opcode) {
     case 0xE1: return [...page(0, 0, height), ...[['dither', 9], ['to display', 10], ['flip X', 12], ['flip Y', 13]]
         .map(([name, at]) => flag('flags', name, 0, at))];
-    case 0xE2: return [numbers('mask', 'x, y', 0, eights(0), eights(5)), numbers('offset', 'x, y', 0, eights(10), eights(15))];
+    case 0xE2: return [numbers('mask', 'x, y', 0, eights(0), eights(5)),
+        numbers('offset', 'x, y', 0, eights(10), eights(15))];
     case 0xE3: case 0xE4: return [numbers('corner', 'x, y', 0, bits(0, 10), bits(10, rows))];
     case 0xE5: return [numbers('offset', 'x, y', 0, signed(0), signed(11))];
     case 0xE6: return [flag('flags', 'sets bit 15', 0, 0), flag('flags', 'keeps cells with bit 15', 0, 1)];

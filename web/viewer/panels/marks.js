@@ -20,7 +20,9 @@ export class Marks {
         Object.assign(this, { app, canvas: element('marks'), costs: null, bars: null });
         new ResizeObserver(() => this.resize()).observe(this.canvas);
         this.resize();
-        app.on('opened changed grown rested', () => this.count());
+        app.on('opened grown rested', () => this.count());
+        // The frames are counted after the change is seen.
+        app.on('changed', () => { this.costs?.stop(); setTimeout(() => this.count()); });
         app.on('ahead', () => { if (app.pass.isDone()) this.count(); else this.draw(); });
         app.on('moved', () => this.draw());
         matchMedia('(prefers-color-scheme: dark)').addEventListener('change', () => this.repaint());

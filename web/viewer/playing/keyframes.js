@@ -38,16 +38,18 @@ export class Keyframes {
     // Lets every other state go, but for the first.
     thin() {
         this.frames = this.frames.filter((_, k) => k % 2 === 0);
-        this.countBytes();
+        this.bytesKept = 4 * TILE_WORDS * new Set(this.frames.flatMap(({ tiles }) => tiles)).size;
     }
 
     // Lets the states after a step go.
     dropAfter(step) {
-        this.frames.length = this.indexAt(step) + 1;
-        this.countBytes();
+        const { frames } = this, end = this.indexAt(step) + 1;
+        for (let k = frames.length - 1; k >= end; k--) {
+            const own = frames[k].tiles.filter((tile, at) => tile !== frames[k - 1]?.tiles[at]);
+            this.bytesKept -= 4 * TILE_WORDS * own.length;
+        }
+        frames.length = end;
     }
-
-    countBytes() { this.bytesKept = 4 * TILE_WORDS * new Set(this.frames.flatMap(({ tiles }) => tiles)).size; }
 
     // Keeps the state after `step` steps, later than all that are kept. `bytes`: those of a snapshot.
     add(step, bytes) {
