@@ -88,6 +88,8 @@ class Following(unittest.TestCase):
         self.picture(data)
         self.assertEqual(self.page.ask('list'), program('list', data=data)[0].decode())
         self.assertEqual(self.page.text('#said'), '')
+        saved = self.page.evaluate('module_cases.pageOfThis(probe.app, probe.viewer.views)')
+        self.assertEqual((saved.count("'none'; connect-src"), saved.count("default-src 'none'; script-src")), (0, 1))
 
     def test_a_place_stays_and_another_file_is_read_anew(self):
         data, other = two_buffers(12), covered()

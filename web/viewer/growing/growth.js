@@ -10,6 +10,8 @@ import { SourceEnded } from './sources.js';
 
 // Milliseconds without a piece after which the file rests; why a recording that is whole grows no more.
 const REST = 500, WHOLE = 'has ended';
+// How many steps are played at most before a frame is shown, unless one frame has more.
+const NEAR = 1 << 16;
 
 export class Growth {
     /**
@@ -108,13 +110,20 @@ export class Growth {
         this.follow();
     }
 
+    // The frame to show next: the last one, or one before it that is played sooner.
+    get next() {
+        const { app: { at, pass }, recording } = this;
+        const near = lastFrame(recording, Math.min(recording.length, pass.at + NEAR));
+        return near > at ? near : lastFrame(recording);
+    }
+
     // A frame is shown before the next one is gone to.
     follow() {
-        const { app, recording } = this, last = lastFrame(recording);
-        if (!this.isFollowing || app.goal >= 0 || last === app.at) return;
+        const { app } = this;
+        if (!this.isFollowing || app.goal >= 0 || this.next <= app.at) return;
         app.how = 'frame';
-        this.target = last;
-        app.ahead.goTo(last);
+        this.target = this.next;
+        app.ahead.goTo(this.target);
     }
 
     /** The page has gone to a place: where it is not the last frame, it stays. */

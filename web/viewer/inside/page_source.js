@@ -23,8 +23,10 @@ function takeCases() {
 /** @type {Case[]} */
 export const CASES = takeCases();
 
-// A page that is saved asks no server, as this one may do (`psxgpu view --follow`).
-const EMPTY = `<!doctype html>\n${document.documentElement.outerHTML}\n`.replace(" connect-src 'self';", '');
+// What the policy of a page that is saved leaves out: it asks no server, as this one may do (`psxgpu view --follow`). It is
+// joined here, so that this script has no such text itself.
+const ASKS = ["'none';", 'connect-src', "'self';"].join(' ');
+const EMPTY = `<!doctype html>\n${document.documentElement.outerHTML}\n`.replace(ASKS, "'none';");
 
 /**
  * Returns a page that is this one, with other cases inside. No text of a case can end the element that holds it.
