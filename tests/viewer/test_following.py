@@ -1,4 +1,5 @@
 """A recording that grows, in Chromium: python3 -m tests.viewer.test_following, after `make web`."""
+import base64
 import contextlib
 import hashlib
 import os
@@ -122,6 +123,27 @@ class Following(unittest.TestCase):
                            (len(data), 'game.capture has ended: 13 frames, 209 events')):
             self.write(data[:size], 'wb')
             self.page.choose('#read-on-file', self.file)
+            self.page.until('document.getElementById("growing-text").textContent.startsWith(%r)' % line[:24])
+        self.until_line(line)
+        self.picture(data)
+
+    def test_a_handle(self):
+        """A file that the browser may look at again is followed. A stand-in gives the handle: no reader is here to choose."""
+        data = two_buffers(12)
+        show(self.page, pathlib.Path(PAGE).resolve().as_uri())
+        give = 'window.now = Uint8Array.from(atob("%s"), letter => letter.charCodeAt(0)); 0'
+        self.page.evaluate(give % base64.b64encode(data[:303]).decode())
+        self.page.evaluate('window.showOpenFilePicker = async () => '
+                           '[{ getFile: async () => new File([window.now], "game.capture") }]; 0')
+        self.page.click('#open')
+        self.page.until('document.getElementById("said").textContent.includes("truncated")')
+        self.page.click('#said button')
+        self.until_line('game.capture has no end yet: 4 frames, 54 events')
+        self.page.click('#read-on')
+        self.until_line('game.capture is growing: 4 frames, 54 events')
+        for size, line in ((700, 'game.capture is growing: 9 frames, 130 events'),
+                           (len(data), 'game.capture has ended: 13 frames, 209 events')):
+            self.page.evaluate(give % base64.b64encode(data[:size]).decode())
             self.page.until('document.getElementById("growing-text").textContent.startsWith(%r)' % line[:24])
         self.until_line(line)
         self.picture(data)

@@ -10,10 +10,15 @@ export function wirePicker(input, open) {
         const handles = await showOpenFilePicker({ multiple: true }), files = handles.map(handle => handle.getFile());
         open(await Promise.all(files), handles.length === 1 ? { handle: handles[0] } : {});
     };
+    let isOffered = Boolean(window.showOpenFilePicker);
     input.addEventListener('click', event => {
-        if (!window.showOpenFilePicker) return;
+        if (!isOffered) return;
         event.preventDefault();
-        pick().catch(fault => { if (fault.name !== 'AbortError') throw fault; });
+        pick().catch(fault => {
+            if (fault.name === 'AbortError') return;
+            isOffered = false;      // the browser refuses it here, as inside of another page
+            input.click();
+        });
     });
 }
 
