@@ -14,7 +14,7 @@ from psxgpu.output import Content, write_several
 from psxgpu.packets.deciders import SPX
 
 SHOWN = 4                   # packets in a line of the table
-FILES = '.capture', '.log', '.py', '.json'
+FILES = '.html', '.capture', '.log', '.py', '.json'
 PAGE = '''<!doctype html>
 <html lang="en"><meta charset="utf-8"><title>%(name)s: kinds of differences</title><style>
 body { font: 14px/1.4 sans-serif; margin: 2em auto; max-width: 90em; padding: 0 1em; color: #222 }
@@ -77,7 +77,8 @@ class Report:
         for ending in FILES:
             name = '%s/%s%s' % (KINDS, cause.key, ending)
             if os.path.exists(self.store.path(name)):
-                links.append('<a href="%s">%s</a>' % (html.escape(name), ending[1:]))
+                text = 'in the viewer' if ending == '.html' else ending[1:]
+                links.append('<a href="%s">%s</a>' % (html.escape(name), text))
         lines = [size_of(cause), *(kind.lines[1:] or kind.packets)]
         return ROW % (self.often(cause), html.escape(cause.sentence), html.escape(tests_of(cause)) + self.others(cause),
                       html.escape(str(kind.decision)), html.escape('\n'.join(lines)), ' '.join(links),

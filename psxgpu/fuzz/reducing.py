@@ -23,6 +23,7 @@ from psxgpu.reduce.report import Reduced, files_of, reduced, report_lines
 from psxgpu.reduce.state import Placed, box_cells, state_units
 from psxgpu.reduce.units import Unit, capture_of, load_unit
 from psxgpu.stream import GP0, encode
+from psxgpu.viewing.linked import page_of_reduced
 
 MOST_PROBES, MOST_SECONDS = 900, 8.0        # of a reduction, in seconds of processor time
 MOST_LOADED = 60000         # cells of what a packet reads
@@ -162,7 +163,8 @@ def reduce_kind(bench: Bench, experiment: Experiment, look: str, needs: Facts) -
         small = tuple(unit.words for unit in reducer.units)
         kind = kind_of(small, look, needs)
         kind.lines = report_lines(found)[1:]
-        best = kind, list(files_of(found, kind.label, ['theirs: ' + bench.theirs.text])), small
+        notes = ['theirs: ' + bench.theirs.text]
+        best = kind, [*files_of(found, kind.label, notes), *page_of_reduced(found, kind.label, notes)], small
         if is_strict or chosen != needs or bench.judge([packed(small)])[0].looks & similar(look):
             return best
     return best
