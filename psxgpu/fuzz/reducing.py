@@ -164,7 +164,8 @@ def reduce_kind(bench: Bench, experiment: Experiment, look: str, needs: Facts) -
         kind = kind_of(small, look, needs)
         kind.lines = report_lines(found)[1:]
         notes = ['theirs: ' + bench.theirs.text]
-        best = kind, [*files_of(found, kind.label, notes), *page_of_reduced(found, kind.label, notes)], small
+        page = page_of_reduced(found._replace(headline=kind.sentence), kind.label, notes)
+        best = kind, [*files_of(found, kind.label, notes), *page], small
         if is_strict or chosen != needs or bench.judge([packed(small)])[0].looks & similar(look):
             return best
     return best
