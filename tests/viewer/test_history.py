@@ -17,7 +17,7 @@ STATES = '''(async step => {
     const pass = new module_pass.Pass(recording, new module_machine.Machine(app.library));
     recording.keyframes = new module_keyframes.Keyframes();
     pass.fit = () => {};
-    for (pass.slice = step; !pass.isDone();) pass.turn();
+    for (pass.slice = pass.apart = step; !pass.isDone();) pass.turn();
 })(%d)'''
 # The changes of a cell, and how its parts were played.
 HISTORY = '''(async (x, y) => {

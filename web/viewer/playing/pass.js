@@ -7,12 +7,12 @@ import { playOther, toStart } from './player.js';
 
 // Milliseconds that a slice is to be played in, and how many steps it has at least and at most.
 const WANTED = 16, LEAST = 16384, MOST = 65536;
-// The first slice; states that are kept are not nearer.
+// The first slice; states that are kept are not nearer to each other.
 const FIRST = 4096;
 
 export class Pass {
     constructor(recording, machine) {
-        Object.assign(this, { recording, machine, at: 0, row: 0, slice: FIRST, count: 0, every: 1, keptAt: -FIRST });
+        Object.assign(this, { recording, machine, at: 0, row: 0, slice: FIRST, apart: FIRST, count: 0, every: 1, keptAt: -FIRST });
         toStart(machine, recording);
     }
 
@@ -36,7 +36,7 @@ export class Pass {
     // Keeps a state, or every second, fourth .. where they would be too many.
     keep(machine) {
         const { keyframes } = this.recording;
-        if (this.at - this.keptAt < FIRST || this.count++ % this.every !== 0 || keyframes.isKept(this.at)) return;
+        if (this.at - this.keptAt < this.apart || this.count++ % this.every !== 0 || keyframes.isKept(this.at)) return;
         this.keptAt = this.at;
         keyframes.add(this.at, machine.stateView());
         if (!keyframes.isFull) return;
