@@ -1,5 +1,5 @@
-"""Makes Debian's packages: the program with its tools and, where the library is built, the library and what a C
-compiler needs of it."""
+"""Makes Debian's packages: the program with its tools and, where the library is built, the library, what a C compiler
+needs of it and, where cargo is installed, the crate for Rust."""
 import hashlib
 import os
 import re
@@ -8,9 +8,12 @@ import tempfile
 import textwrap
 import time
 
+from packages import crate
 from packages.common import NAME, ToolError, entries, epoch, glibc, gzipped, processor, run, stage, strip, text_of, version, write
 
-LIBRARY, FOR_C = 'libpsxgpu%s', 'libpsxgpu-dev'
+LIBRARY, FOR_C, FOR_RUST = 'libpsxgpu%s', 'libpsxgpu-dev', 'librust-psxgpu-dev'
+# Where Debian has the sources of crates: cargo takes them by `directory` in its settings.
+REGISTRY = 'usr/share/cargo/registry'
 TRIGGERS = 'activate-noawait ldconfig\n'
 # Where the loader of glibc finds the library for a processor of level x86-64-v3 by itself.
 NEWER = 'glibc-hwcaps/x86-64-v3'
@@ -143,10 +146,12 @@ def debs(folder):
         if not shutil.which(tool):
             raise ToolError('a .deb needs ' + tool)
     with tempfile.TemporaryDirectory() as top:
-        places = [os.path.join(top, name) for name in ('tool', 'library', 'dev')]
+        places = [os.path.join(top, name) for name in ('tool', 'library', 'dev', 'rust')]
         for place in places:
             os.mkdir(place, 0o755)
         stage(places[0], '/usr', multiarch())
         as_debian(places[0])
         names = [NAME] + move_library(places[0], places[1:])
+        if FOR_C in names and crate.install(os.path.join(places[3], REGISTRY)):
+            names.append(FOR_RUST)
         return [pack(place, name, folder) for place, name in zip(places, names)]
