@@ -27,12 +27,12 @@ class Controls(Reader):
         self.page.press('ArrowDown')
         self.page.press('End')
         self.page.press('Enter', '\r')
-        self.assertEqual(self.page.evaluate('window.done'), 'link')
+        self.assertEqual(self.page.evaluate('window.done'), 'page')
         self.page.evaluate('delete probe.viewer.out.does')
 
     def test_no_select_does_something_for_good(self):
         self.assertEqual(self.page.evaluate('[...document.querySelectorAll("select")].map(({ id }) => id).sort()'),
-                         ['depth', 'difference-as', 'filter', 'frames', 'rate', 'uploads-of'])
+                         ['depth', 'difference-as', 'filter', 'frames', 'part', 'rate', 'uploads-of'])
 
     def test_keys_go_on_after_an_event_was_written(self):
         self.page.press('g', 'g')
