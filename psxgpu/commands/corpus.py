@@ -42,7 +42,7 @@ from psxgpu.corpus.sums import Sums, as_bytes, read_sums, write_text
 from psxgpu.files import plain
 from psxgpu.output import check as check_roles
 from psxgpu.output import Command, Folder, Role, Source, Target, Text, folder, tree, writing
-from psxgpu.players.player import find
+from psxgpu.players.player import find_program
 
 SPLIT = 'psxgpu corpus split'
 USUAL = ('frames', 'vram', 'words')
@@ -93,7 +93,7 @@ def player_of(words: argparse.Namespace, marks: bool = False) -> Player:
         raise ToolError('--gives %s: name some of %s' % (words.gives, ','.join(USUAL)))
     if marks and 'frames' in gives:
         gives[gives.index('frames')] = 'marks'
-    return Player(words.player or shlex.quote(find()), words.limit, gives)
+    return Player(words.player or shlex.quote(find_program()), words.limit, gives)
 
 
 def captures(words: argparse.Namespace) -> List[Capture]:

@@ -50,7 +50,7 @@ def version_of(program: str) -> str:
 def build_of(words: argparse.Namespace) -> Tuple[Player, str]:
     """Returns the player to try and its version. Raises ToolError if there is neither a program nor a library."""
     try:
-        program = None if words.library else player.find(words.player)
+        program = None if words.library else player.find_program(words.player)
     except ToolError:
         if player.is_named(words.player):
             raise

@@ -43,21 +43,30 @@ def is_named(given: Optional[str]) -> bool:
     return bool(given or os.environ.get('PLAYER'))
 
 
-def find(given: Optional[str] = None) -> str:
-    """Returns the path of the program: `given`, that of $PLAYER, of the path, or of the checkout, or else of what plays
-    by the library. Raises ToolError if the one that is named is not there, or if there is none."""
+def find_program(given: Optional[str] = None) -> str:
+    """Returns the path of the program: `given`, that of $PLAYER, of the path, or of the checkout. Raises ToolError if
+    the one that is named is not there, or if there is none."""
     if given:
         return program_of(given, '')
     named = os.environ.get('PLAYER')
     if named:
         return program_of(named, 'PLAYER=')
     path = shutil.which('psxgpu_tool') or shutil.which(BUILT)
-    if path is None and by_library.is_there():
-        path = by_library.__file__
     if path is None:
         hint = 'build it with `make run`' if os.path.isdir(os.path.dirname(os.path.dirname(BUILT))) else 'install it'
         raise ToolError('psxgpu_tool is not on the path: %s, or name it with --player' % hint)
     return path
+
+
+def find(given: Optional[str] = None) -> str:
+    """Returns the path of what `playing` starts: the program, or, if none is named or there, what plays by the library.
+    Raises ToolError as `find_program` does, if there is no library either."""
+    try:
+        return find_program(given)
+    except ToolError:
+        if is_named(given) or not by_library.is_there():
+            raise
+        return by_library.__file__
 
 
 def is_library(player: str) -> bool:

@@ -52,6 +52,20 @@ class Installed(support.InFolder):
         self.assertEqual((status, said), (2, ''))
         self.assertIn('`flat` needs the program psxgpu_tool', error)
 
+    def test_selftest(self) -> None:
+        """It tries the library, and says so."""
+        status, said, error = self.run_python(self.place, ['-m', 'psxgpu', 'selftest'], PATH='/usr/bin:/bin')
+        self.assertEqual((status, error), (0, ''))
+        self.assertIn('18 of 18 outputs are the same: libpsxgpu.so.1 of psxgpu', said)
+
+    def test_corpus(self) -> None:
+        """Its results have the program's sum, so it needs the program."""
+        status, said, error = self.run_python(
+            self.place, ['-m', 'psxgpu', 'corpus', 'record', EXAMPLES, '--golden', self.path('golden')],
+            PATH='/usr/bin:/bin')
+        self.assertEqual((status, said), (2, ''))
+        self.assertIn('psxgpu_tool is not on the path: install it', error)
+
     def test_check(self) -> None:
         """`slim` is the program's alone: its line is left out."""
         capture = os.path.join(EXAMPLES, 'turns.capture')
