@@ -119,7 +119,8 @@ def playing(player: str, words: List[str], source: Union[str, IO[bytes]]) -> Ite
         stack.enter_context(progress.following(file, source if isinstance(source, str) else 'psxgpu_tool'))
         err = stack.enter_context(scratch())
         try:
-            child = stack.enter_context(session([*started(player), *words], stdin=file, stdout=subprocess.PIPE, stderr=err))
+            child = stack.enter_context(session([*started(player), *words], stdin=file, stdout=subprocess.PIPE,
+                                                stderr=err))
         except OSError as error:
             raise ToolError('%s: %s' % (player, error.strerror)) from error
         run = Run(child, err)
