@@ -87,9 +87,9 @@ $(OUT)/%.o: c/%.c c/psxgpu.h
 	mkdir -p $(OUT)
 	$(CC) $(CPPFLAGS) $(CFLAGS) -std=c99 -fPIC -c $< -o $@
 
-$(OUT)/libpsxgpu.a: $(ARCHIVE) $(OUT)/heap.o $(OUT)/text.o
+$(OUT)/libpsxgpu.a: $(ARCHIVE) $(OUT)/heap.o $(OUT)/text.o $(OUT)/play_to.o
 	cp $(ARCHIVE) $@
-	$(AR) rD $@ $(OUT)/heap.o $(OUT)/text.o
+	$(AR) rD $@ $(OUT)/heap.o $(OUT)/text.o $(OUT)/play_to.o
 	$(OBJCOPY) -D $(foreach it,alloc realloc dealloc,--redefine-sym rattle_$(it)=rattle_of_psxgpu_$(it)) $@
 
 define link_shared
@@ -108,7 +108,7 @@ $(NEWER)/libpsxgpu.a: $(OUT)/libpsxgpu.a
 	cd crates/psxgpu_c && cp -p out/libpsxgpu_c.a out/usual.a && \
 	  trap 'mv -f out/usual.a out/libpsxgpu_c.a' EXIT && trap 'exit 1' INT TERM && \
 	  rt lib --cpu=x86-64-v3 && cp out/libpsxgpu_c.a $(abspath $@.part)
-	$(AR) rD $@.part $(OUT)/heap.o $(OUT)/text.o
+	$(AR) rD $@.part $(OUT)/heap.o $(OUT)/text.o $(OUT)/play_to.o
 	mv $@.part $@
 
 $(NEWER)/$(SONAME): $(NEWER)/libpsxgpu.a c/psxgpu.map
@@ -119,7 +119,7 @@ plugin: out/libpsxgpu.a
 
 web: web/out/index.html web/out/conformance.html viewer
 
-web/out/psxgpu.wasm: out/wasi/psxgpu_c.o web/build.py $(WASM) c/text.c c/psxgpu.h
+web/out/psxgpu.wasm: out/wasi/psxgpu_c.o web/build.py $(WASM) c/play_to.c c/text.c c/psxgpu.h
 	python3 -m web.build module
 
 web/out/index.html: web/out/psxgpu.wasm $(wildcard web/*.js) $(wildcard web/film_page/*) \

@@ -3,8 +3,8 @@
  * Link with libpsxgpu. It calls malloc, realloc, free, memcpy, memmove and memset, and nothing else. It has no global
  * state, starts no thread, reads no file and prints nothing.
  *
- * What each function promises is proved of its code: the clauses of crates/psxgpu_c/src/. Two files are C and trusted:
- * c/heap.c (memory) and c/text.c (psxgpu_version, psxgpu_text, psxgpu_line).
+ * What each function promises is proved of its code: the clauses of crates/psxgpu_c/src/. Three files are C and
+ * trusted: c/heap.c (memory), c/text.c (psxgpu_version, psxgpu_text, psxgpu_line) and c/play_to.c (psxgpu_play_to).
  *
  * Each function that returns a uint32_t returns 0 on success, else a code for the cause. On failure it changes neither
  * the machine nor the caller's buffers, except for output that its comment names. So after NO_ROOM or NO_MEMORY the
@@ -68,12 +68,13 @@ enum {
     PSXGPU_BAD_SNAPSHOT = 12, /* word, at byte place, is not allowed there in a state */
     PSXGPU_NO_MEMORY = 13,    /* malloc failed */
     PSXGPU_CLOSED = 14,       /* the handle has no machine */
-    PSXGPU_OPEN = 15,         /* the handle has a machine already */
+    PSXGPU_OPEN = 15,         /* the handle has a machine, or an output, already */
     PSXGPU_BAD_MODE = 16,     /* no mode has this number */
     PSXGPU_NO_CELL = 17,      /* video memory has no such cell */
     PSXGPU_BAD_ADDRESS = 18,  /* main memory has no words there */
     PSXGPU_BAD_CHANNEL = 19,  /* a channel other than 2 and 6 */
-    PSXGPU_TOO_MANY_EVENTS = 20 /* 2^63 events or more were played: a snapshot counts at most 2^63 - 1 */
+    PSXGPU_TOO_MANY_EVENTS = 20, /* 2^63 events or more were played: a snapshot counts at most 2^63 - 1 */
+    PSXGPU_SINK_REFUSED = 21  /* the caller's sink refused bytes */
 };
 
 /* The details of how a call ended. A field that the code does not name is 0. */
@@ -241,6 +242,43 @@ enum {
  * BAD_RECORD, TOO_LONG, BAD_SNAPSHOT, BAD_DMA, DMA_TOO_LONG, LIST_LOOP, NO_PICTURE, NO_ROOM. */
 uint32_t psxgpu_play(uint32_t mode, uint32_t cell, const uint8_t *capture, size_t length, uint8_t *out, size_t room,
                      psxgpu_ended *ended);
+
+/* Plays as psxgpu_play does and keeps no output: ended->written is the number of its bytes, on failure too. Always
+ * writes `ended`. Fails as psxgpu_play does, but with NO_ROOM only after 2^64 - 1 bytes. */
+uint32_t psxgpu_play_size(uint32_t mode, uint32_t cell, const uint8_t *capture, size_t length, psxgpu_ended *ended);
+
+/* The output of a capture that was played, or none. The fields are for the library alone. What a caller owes for a
+ * psxgpu, it owes for a psxgpu_output: it is PSXGPU_OUTPUT_NONE before its first call, and psxgpu_output_free frees
+ * it. */
+typedef struct psxgpu_output {
+    void *at;
+    uint32_t open;
+} psxgpu_output;
+
+#define PSXGPU_OUTPUT_NONE PSXGPU_NONE
+
+/* Plays as psxgpu_play does, once, and keeps the output in `output`, in memory of the library. On failure it has the
+ * first ended->written bytes of the output. After OPEN, BAD_MODE and NO_MEMORY it is as before, and ended->written
+ * is 0. Always writes `ended`. Fails with OPEN if `output` has an output already, else as psxgpu_play does, but never
+ * with NO_ROOM. */
+uint32_t psxgpu_play_output(uint32_t mode, uint32_t cell, const uint8_t *capture, size_t length, psxgpu_output *output,
+                            psxgpu_ended *ended);
+
+/* Writes the bytes of the output from `offset` on to `out`, at most `room` of them, and returns their number. It is 0
+ * after the last byte, and without an output. Later bytes of `out` stay. */
+size_t psxgpu_output_copy(const psxgpu_output *output, size_t offset, uint8_t *out, size_t room);
+
+/* Frees the output, if there is one. The handle is PSXGPU_OUTPUT_NONE then. */
+void psxgpu_output_free(psxgpu_output *output);
+
+/* Takes the next `count` bytes of an output, at least one. They are readable until it returns. Returns 0 to go on. */
+typedef int psxgpu_sink(void *user, const uint8_t *bytes, size_t count);
+
+/* Plays as psxgpu_play_output does, and then passes the output to `sink` in order, on failure too. `user` is passed
+ * on. ended->written: the number of bytes that the sink took. If the sink returns another number than 0, it is not
+ * called again, and the call fails with SINK_REFUSED. Always writes `ended`. */
+uint32_t psxgpu_play_to(uint32_t mode, uint32_t cell, const uint8_t *capture, size_t length, psxgpu_sink *sink,
+                        void *user, psxgpu_ended *ended);
 
 #ifdef __cplusplus
 }

@@ -18,12 +18,13 @@ static const struct { char text[50]; uint16_t parts; } causes[] = {
     [PSXGPU_BAD_SNAPSHOT] = { "bad-snapshot", EVENT | BYTE | WORD },
     [PSXGPU_NO_MEMORY] = { "memory", 0 },
     [PSXGPU_CLOSED] = { "the machine is closed", 0 },
-    [PSXGPU_OPEN] = { "the machine is open", 0 },
+    [PSXGPU_OPEN] = { "it is open already", 0 },
     [PSXGPU_BAD_MODE] = { "the library has no such mode", 0 },
     [PSXGPU_NO_CELL] = { "no such cell", 0 },
     [PSXGPU_BAD_ADDRESS] = { "main memory has no words there", 0 },
     [PSXGPU_BAD_CHANNEL] = { "no such channel", 0 },
     [PSXGPU_TOO_MANY_EVENTS] = { "more events were played than a snapshot can count", 0 },
+    [PSXGPU_SINK_REFUSED] = { "the sink refused bytes", 0 },
 };
 
 enum { CAUSES = sizeof causes / sizeof *causes };

@@ -12,7 +12,9 @@ from typing import Dict, List, Optional, Set, Tuple
 
 ROOT = os.path.dirname(os.path.dirname(os.path.abspath(__file__)))
 PARTS = ('src', 'specs', 'proofs')
-# What proving takes, as it was measured on one processor: seconds for a crate, and for each of its lines.
+# Processor seconds that crates took, as they were measured (times.py).
+TIMES = os.path.join(ROOT, 'proving', 'seconds.txt')
+# What proving takes where it was not measured: seconds for a crate, and for each of its lines.
 SECONDS, SECONDS_A_LINE = 30, 0.038
 # A run takes this many times the time that it would take if all processors worked all the time.
 LOSS = 1.45
@@ -67,6 +69,21 @@ def count_lines(crate: str) -> int:
     return total
 
 
+def measured() -> Dict[str, float]:
+    """Returns the processor seconds of the crates whose proof was timed; none where there is no file of times."""
+    try:
+        with open(TIMES, encoding='utf-8') as file:
+            rows = [line.split() for line in file if line.strip() and not line.startswith('#')]
+    except FileNotFoundError:
+        return {}
+    return {name: float(seconds) for name, seconds in rows}
+
+
+def seconds_of(crate: str, times: Dict[str, float]) -> float:
+    """Returns the processor seconds that a crate takes: as measured, else by its lines."""
+    return times[crate] if crate in times else SECONDS + SECONDS_A_LINE * count_lines(crate)
+
+
 def free_memory() -> int:
     """Returns the memory that may be had, in bytes; where the system doesn't say, none."""
     try:
@@ -97,9 +114,9 @@ class Plan:
 
     def __init__(self, needs: Dict[str, List[str]], left: List[str], jobs: Optional[int]):
         """Plans for the crates that are `left`, lowest first. `jobs`: how many at a time, each by one processor."""
-        lines = {name: count_lines(name) for name in left}
+        lines, self.times = {name: count_lines(name) for name in left}, measured()
         self.below: Dict[str, Set[str]] = {name: {*all_below(needs, name)} & {*left} for name in left}
-        self.seconds = {name: SECONDS + SECONDS_A_LINE * lines[name] for name in left}
+        self.seconds = {name: seconds_of(name, self.times) for name in left}
         self.memory = {name: memory_of(lines[name]) for name in left}
         self.fixed = jobs is not None
         self.lanes = jobs or len(os.sched_getaffinity(0))
@@ -115,7 +132,7 @@ class Plan:
 
     def minutes(self, top: str) -> int:
         """Returns about how long it takes, with the crate on top."""
-        seconds = sum(self.seconds.values()) + SECONDS + SECONDS_A_LINE * count_lines(top)
+        seconds = sum(self.seconds.values()) + seconds_of(top, self.times)
         return round(seconds * (1 if self.lanes == 1 else LOSS) / self.lanes / 60 + 0.5)
 
     def begin(self) -> Optional[Tuple[str, int]]:

@@ -12,12 +12,12 @@ if TYPE_CHECKING:
     from typing import Any, List
 
     from psxgpu.machine import (MODES, Error, Frame, Machine, Missing, Note, OutOfMemory, Packet, Record, Recording,
-                                Refused, Registers, Snapshot, play)
+                                Refused, Registers, Snapshot, play, play_size, play_to)
     from psxgpu.machine.library import library
 
 __version__ = '1.0.0'
 __all__ = ['Error', 'Frame', 'MODES', 'Machine', 'Missing', 'Note', 'OutOfMemory', 'Packet', 'Record', 'Recording',
-           'Refused', 'Registers', 'Snapshot', '__version__', 'library', 'play']
+           'Refused', 'Registers', 'Snapshot', '__version__', 'library', 'play', 'play_size', 'play_to']
 
 
 def __getattr__(name: str) -> Any:

@@ -5,13 +5,16 @@ import itertools
 import re
 import shutil
 import subprocess
-from typing import IO, List, NamedTuple, Optional, Tuple, cast
+import tempfile
+from typing import IO, Dict, List, NamedTuple, Optional, Tuple, cast
 
 from psxgpu.command import ToolError
-from psxgpu.corpus.scan import FLIP, MARK
+from psxgpu.corpus.scan import FLIP, MARK, copy_bytes, past_head, records, take_words
 from psxgpu.players import player
 from psxgpu.players.numbering import Ends
 from psxgpu.players.named import said_last
+from psxgpu.records import END, GP1
+from psxgpu.records import encode as record
 from psxgpu.stopping import scratch, session
 
 FRAME = re.compile(rb'(\d{1,20}) (\d{1,5}) (\d{1,5}) [0-9a-f]{64}\n')      # a line of `sums`
@@ -19,6 +22,7 @@ FRAME = re.compile(rb'(\d{1,20}) (\d{1,5}) (\d{1,5}) [0-9a-f]{64}\n')      # a l
 SHOWN = ['-pix_fmt', 'yuv420p']
 LOSSLESS = ['-c:v', 'ffv1', '-level', '3', '-pix_fmt', 'bgr0', '-fflags', '+bitexact', '-flags:v', '+bitexact',
             '-f', 'matroska']
+RESET, SIZING = 0x00, (0x05, 0x06, 0x07, 0x08)     # opcodes of GP1 that decide the size of the picture
 # Where a frame ends, as arguments of `frames` and `sums`.
 FLIPS: List[str] = []
 MARKS = ['marks']
@@ -40,29 +44,83 @@ class Pictures(NamedTuple):
     size: Tuple[int, int]
 
 
-def sizes_of(program: str, path: str, words: List[str], ends: Ends) -> List[Tuple[int, int]]:
-    """Returns the size of the picture of each frame that shows one. Raises ToolError if the program refuses the
-    capture. Without packets, what is after the last flip is not a frame, and its picture is left out."""
-    found: List[Tuple[int, int]] = []
-    left = collections.Counter(ends.events)
-    with player.playing(program, ['sums', *words], path) as run:
-        for line in run.out:
-            frame = FRAME.fullmatch(line)
-            event = ends.event_of(int(frame[1])) if frame else 0
-            if frame and left[event]:
-                left[event] -= 1
-                found.append((int(frame[2]), int(frame[3])))
-        run.expect_whole()
-    return found
+class Display:
+    """The words of GP1 that decide the size of the shown picture, as a capture with a mark for each different setting.
+    It has no drawing, so its pictures cost nothing. A snapshot's state comes first."""
+
+    def __init__(self, path: str) -> None:
+        self.path, self.file = path, tempfile.TemporaryFile(prefix='psxgpu')
+        self.keys: Dict[Tuple[int, ...], int] = {}      # the event of the mark by the latest words of each opcode
+        self.latest: Dict[int, int] = {}
+        self.event = 0
+
+    def __enter__(self) -> 'Display':
+        return self
+
+    def __exit__(self, *_: object) -> None:
+        self.file.close()
+
+    def write(self, word: int) -> None:
+        """Adds a word."""
+        self.file.write(record(GP1, 1, [word]))
+        self.event += 1
+
+    def key(self) -> int:
+        """Returns the event of the mark that shows the picture as it is now."""
+        key = tuple(self.latest.get(opcode, -1) for opcode in SIZING)
+        if key not in self.keys:
+            self.write(MARK << 24)
+            self.keys[key] = self.event
+        return self.keys[key]
+
+    def ends(self, opcode: int) -> List[int]:
+        """Goes through the recording. Returns the mark of each frame that ends with this opcode, and that of the end."""
+        found = []
+        with open(self.path, 'rb') as file:
+            self.event = past_head(file)
+            size = file.tell()
+            file.seek(0)
+            copy_bytes(file, self.file, size)
+            with contextlib.suppress(ValueError):       # what is damaged is refused by the player
+                for kind, _, _ in records(file):
+                    word = take_words(file, 1)[0] if kind == GP1 else 0
+                    number = word >> 24 & 0x3F
+                    if kind == GP1 and number in (RESET, *SIZING):
+                        self.write(word)
+                        self.latest = dict.fromkeys(SIZING, RESET) if number == RESET else {**self.latest, number: word}
+                    if kind == GP1 and number == opcode:
+                        found.append(self.key())
+        return [*found, self.key()]
+
+    def sizes(self, program: str) -> Dict[int, Tuple[int, int]]:
+        """Returns the size of the picture by the event of its mark. One without a pixel has none."""
+        self.file.write(record(END, 0))
+        self.file.flush()
+        self.file.seek(0)
+        with player.playing(program, ['sums', *MARKS], self.file) as run:
+            found = list(map(FRAME.fullmatch, run.out))
+            run.expect_whole()
+        return {int(line[1]): (int(line[2]), int(line[3])) for line in found if line}
+
+
+def sizes_of(program: str, path: str, opcode: int) -> List[Tuple[int, int]]:
+    """Returns the size of the picture of each frame that shows one. Without packets, what is after the last flip is not
+    a frame, and its picture is left out."""
+    with Display(path) as display:
+        *ends, last = display.ends(opcode)
+        sizes = display.sizes(program)
+    if opcode == FLIP and last in sizes and Ends(program, path, opcode).has_rest:
+        ends.append(last)
+    return [sizes[end] for end in ends if end in sizes]
 
 
 def frames_of(program: str, path: str, by_flips: bool) -> Pictures:
     """Returns the pictures: at marks if the capture has marks, else at flips. Raises ToolError if there is none."""
     for words, opcode in ((FLIPS, FLIP),) if by_flips else ((MARKS, MARK), (FLIPS, FLIP)):
-        sizes = sizes_of(program, path, words, Ends(program, path, opcode))
+        sizes = sizes_of(program, path, opcode)
         if sizes:
             return Pictures(words, len(sizes), collections.Counter(sizes).most_common(1)[0][0])
-    raise ToolError('it shows no picture')
+    raise ToolError(player.refusal(program, path) or 'it shows no picture')
 
 
 def pour_pictures(source: IO[bytes], count: int, target: IO[bytes]) -> None:

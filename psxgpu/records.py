@@ -25,7 +25,9 @@ def little(words: "array[int]") -> "array[int]":
 
 
 def encode(kind: int, count: int, words: Iterable[int] = ()) -> bytes:
-    """Returns a record as bytes."""
+    """Returns a record as bytes. Those of an array of words are copied at once."""
+    if isinstance(words, array) and words.typecode == 'I':
+        return little(array('I', [kind << 24 | count])).tobytes() + little(words[:]).tobytes()
     return little(array('I', [kind << 24 | count, *words])).tobytes()
 
 

@@ -71,6 +71,10 @@ def archive(path: str, *parts: str) -> None:
     run(tool('llvm-ar'), 'rcsD', path, *parts)
 
 
+# The calls that c/text.c and c/play_to.c define.
+CALLS_IN_C = ('psxgpu_line', 'psxgpu_play_to', 'psxgpu_text', 'psxgpu_version')
+
+
 def declared(kinds: str) -> List[str]:
     """Returns the names of the calls in c/psxgpu.h that return one of these; `kinds` is a pattern."""
     with open(os.path.join(ROOT, 'c', 'psxgpu.h'), encoding='utf-8') as file:
@@ -78,8 +82,8 @@ def declared(kinds: str) -> List[str]:
 
 
 def calls() -> List[str]:
-    """Returns the names of the proved library's calls: each returns a code or nothing."""
-    return declared('uint32_t |void ')
+    """Returns the names of the proved library's calls: all but those that a file of `c/` defines."""
+    return [name for name in exports() if name not in CALLS_IN_C]
 
 
 def exports() -> List[str]:
@@ -89,4 +93,5 @@ def exports() -> List[str]:
 
 def library_parts() -> List[str]:
     """Returns the C files of the library, without c/heap.c: what that does is in the module (src/heap.ll)."""
-    return [path for path in (os.path.join(ROOT, 'c', 'text.c'),) if os.path.exists(path)]
+    paths = (os.path.join(ROOT, 'c', name) for name in ('play_to.c', 'text.c'))
+    return [path for path in paths if os.path.exists(path)]

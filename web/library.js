@@ -2,7 +2,7 @@
 
 import { bytesOf } from './bytes.js';
 import { Machine } from './machine.js';
-import { NO_MEMORY, NO_ROOM, Refused } from './refused.js';
+import { NO_MEMORY, Refused } from './refused.js';
 
 /**
  * The exports of the module. An address or a size is a BigInt; a code, a word or a channel is a number.
@@ -12,8 +12,8 @@ import { NO_MEMORY, NO_ROOM, Refused } from './refused.js';
 /** The modes of `Library.play`, each named after the command of psxgpu_tool. */
 export const MODES = ['play', 'vram', 'shot', 'list', 'report', 'frames', 'frames marks', 'sums', 'sums marks', 'pixel'];
 
-const [ENDED_BYTES, LINE_BYTES] = [32, 96];
-const [FIRST_BUFFER, FIRST_OUTPUT] = [65536, 4194304];
+const [ENDED_BYTES, LINE_BYTES, OUTPUT_BYTES] = [32, 96, 16];
+const [FIRST_BUFFER, PIECE_BYTES] = [65536, 65536];
 
 /** A loaded module. A view of its memory is valid until the next call of any machine of this library. */
 export class Library {
@@ -96,50 +96,115 @@ export class Library {
      * Returns the error of a code, with the library's text of it.
      * @param {number} code
      * @param {bigint} [end] the address of the psxgpu_ended that the call filled, if it has one
-     * @param {Uint8Array} [output] what `play` wrote before the refusal
      */
-    refused(code, end, output) {
+    refused(code, end) {
         if (end === undefined) return new Refused(code, this.text(this.exports.psxgpu_text(code)));
         const line = this.small + BigInt(ENDED_BYTES);
         this.exports.psxgpu_line(end, line, BigInt(LINE_BYTES));
-        return new Refused(code, this.text(line), this.ended(end), output);
+        return new Refused(code, this.text(line), this.ended(end));
     }
 
     /**
-     * Returns what `psxgpu_tool MODE` writes of a capture or a snapshot.
+     * Returns what `psxgpu_tool MODE` writes of a capture or a snapshot. Throws Refused with the `output` before the refusal.
      * @param {string} mode one of MODES
      * @param {BufferSource} capture
      * @param {[number, number]} cell column and row, for the mode 'pixel'
      */
     play(mode, capture, cell = [0, 0]) {
+        return this.played(mode, capture, cell, (pieces, written, refusal) => {
+            const output = new Uint8Array(written);
+            let offset = 0;
+            for (const piece of pieces) {
+                output.set(piece, offset);
+                offset += piece.length;
+            }
+            if (refusal === null) return output;
+            refusal.output = output;
+            throw refusal;
+        });
+    }
+
+    /**
+     * Passes what `play` returns to a function, in order, in pieces of at most 64 KiB. Returns the number of bytes. Throws
+     * what `sink` throws, which is not called again; or Refused, after the bytes before the refusal were passed.
+     * @param {string} mode one of MODES
+     * @param {BufferSource} capture
+     * @param {(piece: Uint8Array) => void} sink each piece is its own
+     * @param {[number, number]} cell column and row, for the mode 'pixel'
+     */
+    playTo(mode, capture, sink, cell = [0, 0]) {
+        return this.played(mode, capture, cell, (pieces, written, refusal) => {
+            for (const piece of pieces) sink(piece);
+            if (refusal !== null) throw refusal;
+            return written;
+        });
+    }
+
+    /**
+     * Returns the number of bytes that `play` returns, and keeps none of them. Throws Refused with the number of bytes
+     * before the refusal as `written`.
+     * @param {string} mode one of MODES
+     * @param {BufferSource} capture
+     * @param {[number, number]} cell column and row, for the mode 'pixel'
+     */
+    playSize(mode, capture, cell = [0, 0]) {
+        const refusal = this.playedBy('play_size', mode, capture, cell);
+        if (refusal !== null) throw refusal;
+        return this.ended(this.small).written;
+    }
+
+    /**
+     * Plays once, by a handle of its own for the output, which is freed after `use`. Returns what `use` returns of the pieces
+     * of the output, the number of its bytes, and why the capture is refused, or null.
+     * @template Result
+     * @param {string} mode
+     * @param {BufferSource} capture
+     * @param {[number, number]} cell
+     * @param {(pieces: Iterable<Uint8Array>, written: number, refusal: Refused | null) => Result} use
+     * @returns {Result}
+     */
+    played(mode, capture, cell, use) {
+        const held = this.take(OUTPUT_BYTES);
+        this.bytes(held, OUTPUT_BYTES).fill(0);
+        try {
+            const refusal = this.playedBy('play_output', mode, capture, cell, held);
+            return use(this.pieces(held), this.ended(this.small).written, refusal);
+        } finally {
+            this.call('output_free', held);
+            this.give(held);
+        }
+    }
+
+    /** Makes a call that plays, with a psxgpu_ended in `small`. Returns why it is refused, or null.
+     * @param {string} name
+     * @param {string} mode
+     * @param {BufferSource} capture
+     * @param {[number, number]} cell
+     * @param {...bigint} rest arguments after the capture
+     * @returns {Refused | null} */
+    playedBy(name, mode, capture, [x, y], ...rest) {
         const number = MODES.indexOf(mode), data = bytesOf(capture);
         if (number < 0) throw new RangeError(`mode ${mode} is none of ${MODES}`);
         const from = this.take(Math.max(1, data.length));
         try {
             this.bytes(from, data.length).set(data);
-            for (let most = FIRST_OUTPUT; ; most *= 2) {
-                const { code, output } = this.playInto(most, number, cell[0] | cell[1] << 16, from, data.length);
-                if (code === 0) return output;
-                if (code !== NO_ROOM) throw this.refused(code, this.small, output);
-            }
+            const code = this.call(name, number, x | y << 16, from, BigInt(data.length), ...rest, this.small);
+            return code ? this.refused(code, this.small) : null;
         } finally {
             this.give(from);
         }
     }
 
-    /** Plays the `length` bytes at `from` into an output of at most `most` bytes.
-     * @param {number} most
-     * @param {number} mode
-     * @param {number} cell
-     * @param {bigint} from
-     * @param {number} length */
-    playInto(most, mode, cell, from, length) {
-        const to = this.take(most);
-        try {
-            const code = this.call('play', mode, cell, from, BigInt(length), to, BigInt(most), this.small);
-            return { code, output: this.bytes(to, this.ended(this.small).written).slice() };
-        } finally {
-            this.give(to);
+    /** Yields copies of the bytes of an output.
+     * @param {bigint} held the address of a psxgpu_output
+     * @returns {Generator<Uint8Array>} */
+    *pieces(held) {
+        for (let offset = 0; ;) {
+            const at = this.reserve(PIECE_BYTES);
+            const count = Number(this.exports.psxgpu_output_copy(held, BigInt(offset), at, BigInt(PIECE_BYTES)));
+            if (count === 0) return;
+            yield this.bytes(at, count).slice();
+            offset += count;
         }
     }
 

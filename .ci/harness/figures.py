@@ -64,15 +64,16 @@ def figures(files: Iterable[Tuple[str, str]]) -> Figures:
     """Returns the figures of files, each given as its path and its text."""
     out: Figures = {name: [] for name in (
         'functions of more than five parameters', 'contracts of more than eight clauses', 'bodies of more than 40 lines',
-        'source files of more than 200 lines', 'lines of more than 120 columns',
+        'files of more than 500 lines', 'folders of more than twenty files', 'lines of more than 120 columns',
         'definitions of more than five arguments', 'functions without an ensures clause')}
-    wide, many, long, files_long, columns, spread, silent = out.values()
+    wide, many, long, files_long, crowded, columns, spread, silent = out.values()
+    in_folder: Dict[str, int] = collections.Counter()
     for path, text in files:
         lines = text.splitlines()
+        in_folder[os.path.dirname(path)] += 1
+        files_long += [(len(lines), path)] if len(lines) > 500 else []
         columns += [(len(line), '%s:%d' % (path, k + 1)) for k, line in enumerate(lines) if len(line) > 120]
         if path.endswith('.rt') and not re.search(r'/tests(\.rt|/)', path):
-            if len(lines) > 200:
-                files_long.append((len(lines), path))
             for name, given, clauses, size, promises_nothing in functions(text):
                 place = '%s %s' % (path, name)
                 wide += [(given, place)] if given > 5 else []
@@ -81,6 +82,7 @@ def figures(files: Iterable[Tuple[str, str]]) -> Figures:
                 silent += [(1, place)] if promises_nothing else []
         elif '/specs/' in path:
             spread += [(given, '%s %s' % (path, name)) for name, given in arguments(text) if given > 5]
+    crowded += [(count, folder) for folder, count in in_folder.items() if count > 20]
     return {name: sorted(rows, reverse=True) for name, rows in out.items()}
 
 
@@ -95,6 +97,8 @@ def of_repository() -> Iterator[Tuple[str, str]]:
 
 
 PLANTED = [
+    ('a/src/long.rt', '// a\n' * 501, 'files of more than 500 lines', 1),
+    ('a/proofs/Long.antt', '-- a\n' * 500, 'files of more than 500 lines', 0),
     ('a/src/wide.rt', 'fn f(a: u8, b: (u8, u8), c: &[u8], d: u8, e: u8, f: u8)\n{\n}\n',
      'functions of more than five parameters', 1),
     ('a/src/wide.rt', 'fn f(a: u8, b: (u8, u8), c: Map<u8, u8>, d: u8, e: u8,)\n{\n}\n',
@@ -144,6 +148,9 @@ def tried() -> bool:
         if len(found) != wanted:
             print('planted, and counted wrong: %r: %s: %s' % (text[:60], name, found))
             well = False
+    for count in (20, 21):
+        found = figures(('a/src/%d.rt' % k, '') for k in range(count))['folders of more than twenty files']
+        well = well and len(found) == (count > 20)
     return well
 
 

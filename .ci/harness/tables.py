@@ -8,7 +8,7 @@
 | packet lengths | the proved program: crates/gp0_words/specs/Kinds.antt |
 | tags that a version allows | the proved program: crates/gpu_capture/specs/Record.antt |
 | kinds of records | crates/gpu_capture/specs/Written.antt |
-| codes of the library | crates/psxgpu_c/specs/Codes.antt |
+| codes of the library | crates/psxgpu_c/specs/Codes.antt, and OF_C |
 | modes of the library | crates/psxgpu_c/specs/Whole.antt |
 
 Prints a line for each difference. Status: 0 none, 1 some, 2 an error, 77 none, but a copy could not be read here.
@@ -33,6 +33,8 @@ HEADER, RECORDER, MODE = 'c/psxgpu.h', 'recorder/psxgpu_capture.h', 'MODE_'
 CRATE = 'rust/psxgpu/src/'
 TOY = 'examples/toy_gpu'            # of the skeletons of a player
 NEVER = ('END', 'READ_FAULT')       # causes that no call returns: the header does not name them
+# The code that c/play_to.c returns and no proved call.
+OF_C = {'SINK_REFUSED': 21}
 
 
 class Copy(NamedTuple):
@@ -116,7 +118,7 @@ def in_scripts(text: str, read: Callable[[str], Table]) -> List[Copy]:
 
 def tables(player: str) -> List[Tuple[str, Reader, Sequence[Copy]]]:
     """Returns the tables: what each is, its source, and its copies."""
-    codes = {'DONE': 0, **{name: code for name, code in rattle_codes().items() if name not in NEVER}}
+    codes = {'DONE': 0, **{name: code for name, code in rattle_codes().items() if name not in NEVER}, **OF_C}
     return [('packet lengths', lambda: program_lengths(player), length_copies()),
             ('tags', lambda: program_tags(player), tag_copies()),
             ('kinds of records', rattle_kinds, kind_copies()),

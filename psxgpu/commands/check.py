@@ -13,7 +13,7 @@ import argparse
 import json
 from typing import Dict
 
-from psxgpu import progress
+from psxgpu import jobs, progress
 from psxgpu.command import DIFFERENT, SAME, ToolError, reason_of, title
 from psxgpu.contents import Contents, contents
 from psxgpu.files import plain
@@ -26,14 +26,15 @@ def arguments(parser: argparse.ArgumentParser) -> None:
     parser.add_argument('captures', nargs='+', type=Source, metavar='CAPTURE',
                         help='captures or dumps of a GPU; - is standard input')
     parser.add_argument('--json', action='store_true', help='print a list of objects, one for each capture')
+    jobs.argument(parser)
     player.argument(parser)
 
 
-def looked_at(path: str, program: str) -> Contents:
+def looked_at(path: str, program: str, side_by_side: int) -> Contents:
     """Returns what a capture contains."""
     name = title(path)
     with progress.shown(name, is_quiet=True), plain(path) as copy:
-        return contents(copy, name, program)
+        return contents(copy, name, program, side_by_side)
 
 
 def run(words: argparse.Namespace) -> int:
@@ -43,7 +44,7 @@ def run(words: argparse.Namespace) -> int:
     faults = []
     for path in dict.fromkeys(words.captures):
         try:
-            found[title(path)] = looked_at(path, program)
+            found[title(path)] = looked_at(path, program, words.jobs)
         except (ToolError, OSError) as error:
             if len(words.captures) == 1:
                 raise

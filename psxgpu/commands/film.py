@@ -52,6 +52,8 @@ def run(words: argparse.Namespace) -> None:
         with progress.shown(name, is_quiet=True), player.playing(program, ['frames', *pictures.ends], path) as playing:
             try:
                 encode(ffmpeg, playing.out, pictures, form, target)
+                playing.expect_whole()
             except ToolError as error:
-                raise ToolError(str(error).replace(target, words.film)) from error
-            playing.expect_whole()
+                refused = player.refusal(program, path)
+                raise ToolError('%s: %s' % (name, refused) if refused else
+                                str(error).replace(target, words.film)) from error

@@ -29,6 +29,7 @@ import time
 from typing import Iterator, List
 
 from psxgpu.command import DIFFERENT, SAME, ToolError, decimal, reading
+from psxgpu.fuzz.asking import Asking
 from psxgpu.fuzz.causes import causes
 from psxgpu.fuzz.cover import cover
 from psxgpu.fuzz.hunt import Hunt, ground_of
@@ -147,10 +148,15 @@ def join(folders: List[str], store: Store) -> None:
 
 
 def contents(path: str, number: int) -> bytes:
-    """Returns the bytes of a file. In the counts of a worker, names of kinds begin with the number of the folder."""
+    """Returns the bytes of a file. In a kind and in the counts of a worker, names of kinds begin with the number of the
+    folder."""
     with open(path, 'rb') as file:
         data = file.read()
-    if not os.path.basename(path).startswith(COUNTS):
+    name, ending = os.path.splitext(os.path.basename(path))
+    if ending == '.json' and os.path.basename(os.path.dirname(path)) == KINDS:
+        kind = json.loads(data)
+        return as_json({**kind, 'same': ['%d-%s' % (number, key) for key in kind.get('same', ())]})
+    if not name.startswith(COUNTS):
         return data
     worker = json.loads(data)
     return as_json({**worker, 'seen': {'%d-%s' % (number, key): count for key, count in worker['seen'].items()}})
@@ -166,6 +172,10 @@ def opened(words: argparse.Namespace, seeds: List[int]) -> Store:
 
 def finish(words: argparse.Namespace) -> int:
     """Writes the page and prints the kinds. Returns the status."""
+    if words.theirs:
+        bench = bench_of(words, SEEDS * words.seed)
+        if not isinstance(bench, DumpBench):
+            Asking(bench, Store(words.output, MAKER)).ask()
     report = report_of(words.output)
     if words.theirs and not words.no_suite:
         theirs = player_of(words.theirs, words.seconds)

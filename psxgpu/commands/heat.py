@@ -17,13 +17,13 @@ Status: 0 written, 2 an error.
 from __future__ import annotations
 
 import argparse
-import contextlib
-from typing import Optional, Tuple
+from typing import List, Optional
 
+from psxgpu import jobs
 from psxgpu.command import ToolError, decimal, title
 from psxgpu.errors import counted
 from psxgpu.heat.counting import Counter, Frame
-from psxgpu.heat.picture import Counts, counts_of, picture
+from psxgpu.heat.picture import Counts, picture
 from psxgpu.image import write_image
 from psxgpu.files import plain
 from psxgpu.output import Picture, Source, once
@@ -40,6 +40,7 @@ def arguments(parser: argparse.ArgumentParser) -> None:
     once(parser, 'picture', Picture, 'the PNG or PPM to write')
     parser.add_argument('--frame', type=decimal(1, 1 << 30), metavar='N', help='the number of a frame, from 1')
     parser.add_argument('--flips', action='store_true', help='frames end at each write of the display start')
+    jobs.argument(parser)
     player.argument(parser)
 
 
@@ -51,36 +52,39 @@ def frame_line(number: int, frame: Frame, counts: Optional[Counts]) -> str:
     return '%d %d %d %d %.2f %d' % (number, frame.packets, total, covered, total / max(covered, 1), counts.most())
 
 
-def frames(counter: Counter, wanted: Optional[int]) -> Tuple[int, Optional[Counts]]:
-    """Prints the lines. Returns the number and counts of the wanted frame, or of that in which most is drawn."""
-    rows = 1024 if counter.walk.is_tall else 512
-    shown: Tuple[int, Optional[Counts]] = (0, None)
-    most = -1
-    print('frame packets total covered mean most')
-    for number, frame in enumerate(counter.counted(), 1):
-        if number > counter.count:
-            break
-        counts = counts_of(frame, rows) if frame.sums or frame.areas else None
-        print(frame_line(number, frame, counts))
+class Shown:
+    """The lines of all frames, and the number and the counts of the wanted frame, or of that in which most is drawn."""
+
+    def __init__(self, wanted: Optional[int]) -> None:
+        self.wanted = wanted
+        self.lines: List[str] = []
+        self.number, self.most = 0, -1
+        self.counts: Optional[Counts] = None
+
+    def take(self, frame: Frame, rows: int) -> None:
+        """Takes the next frame."""
+        number = len(self.lines) + 1
+        counts = Counts(frame, rows) if frame.sums or frame.areas else None
+        self.lines.append(frame_line(number, frame, counts))
         moved = sum((x2 - x1 + 1) * (y2 - y1 + 1) for x1, y1, x2, y2 in frame.areas)
         drawn = counts.total() - moved if counts else -1
-        if number == wanted or not wanted and frame.sums and drawn > most:
-            shown, most = (number, counts), drawn
-        frame.sums, frame.areas = {}, []        # no longer needed
-    return shown
+        if number == self.wanted or not self.wanted and frame.sums and drawn > self.most:
+            self.number, self.counts, self.most = number, counts, drawn
 
 
 def run(words: argparse.Namespace) -> None:
     """Runs the command."""
     program, name = player.find(words.player), title(words.capture)
+    shown = Shown(words.frame)
     with plain(words.capture) as path, flattened(path, program) as flat:
-        counter = Counter(Walk(flat, name, program), FLIP if words.flips else MARK)
-        with contextlib.closing(counter.questions):
-            counter.go()
-            if words.frame and words.frame > counter.count:
-                raise ToolError('%s: there is no frame %d: it has %s' % (
-                    name, words.frame, counted(counter.count, 'frame')))
-            number, counts = frames(counter, words.frame)
+        walk = Walk(flat, name, program)
+        for frame in Counter(walk, FLIP if words.flips else MARK, words.jobs).counted():
+            shown.take(frame, 1024 if walk.is_tall else 512)
+    if words.frame and words.frame > len(shown.lines):
+        raise ToolError('%s: there is no frame %d: it has %s' % (
+            name, words.frame, counted(len(shown.lines), 'frame')))
+    print('\n'.join(['frame packets total covered mean most', *shown.lines]))
+    number, counts = shown.number, shown.counts
     if words.frame and (counts is None or number != words.frame):
         raise ToolError('%s: frame %d covers no cell' % (name, words.frame))
     if counts is None:

@@ -14,14 +14,14 @@ import argparse
 import json
 import re
 import sys
-from typing import List
+from typing import Iterator, List
 
 from psxgpu import progress
 from psxgpu.command import SAME, TROUBLE, ToolError, decimal, reading, title
 from psxgpu.files import plain
 from psxgpu.output import Source
 from psxgpu.packets.control import class_name
-from psxgpu.packets.listing import NAMES, Entry, Listing, holds
+from psxgpu.packets.listing import NAMES, Entry, Listing, Together, holds
 from psxgpu.players import player
 from psxgpu.stream import Stream
 
@@ -72,18 +72,44 @@ def show_refusal(said: str) -> None:
         print(line, file=sys.stderr)
 
 
+def asked_of(words: argparse.Namespace, part: Together) -> Iterator[Entry]:
+    """Returns the entries of a run that are asked for. What no filter keeps is not decoded."""
+    first, last = part.events()
+    if words.name and part.run.name not in words.name:
+        return iter(())
+    if words.events and (last < words.events[0] or first > words.events[1]):
+        return iter(())
+    numbers = range(len(part.lines)) if not words.cell else (
+        number for number, line in enumerate(part.lines) if holds(line.split(' ', 3)[3], words.cell))
+    return (entry for entry in part.entries(numbers) if is_asked_for(words, entry))
+
+
+def texts_of(listing: Listing, words: argparse.Namespace, is_whole: bool) -> Iterator[List[str]]:
+    """Returns the texts of the entries that are asked for, those of a run together."""
+    for part in listing.parts():
+        if not isinstance(part, Together):
+            if is_whole or is_asked_for(words, part):
+                yield [entry_text(part, words)]
+            continue
+        found = part.texts() if is_whole and words.line and not words.json else None
+        if found is not None:
+            yield found
+            continue
+        for entry in part.entries() if is_whole else asked_of(words, part):
+            yield [entry_text(entry, words)]
+
+
 def write_entries(listing: Listing, words: argparse.Namespace, is_whole: bool) -> int:
     """Writes the entries that are asked for, many at once if all are. Returns their number."""
     texts: List[str] = []
     count, together = 0, TOGETHER if is_whole else 1
     try:
-        for entry in listing:
-            if is_whole or is_asked_for(words, entry):
-                texts.append(entry_text(entry, words))
-                count += 1
-                if len(texts) == together:
-                    sys.stdout.write(''.join(texts))
-                    texts.clear()
+        for some in texts_of(listing, words, is_whole):
+            texts += some
+            count += len(some)
+            if len(texts) >= together:
+                sys.stdout.write(''.join(texts))
+                texts.clear()
     finally:
         sys.stdout.write(''.join(texts))
     return count

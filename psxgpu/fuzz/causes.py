@@ -4,25 +4,13 @@ from __future__ import annotations
 from dataclasses import replace
 from typing import Dict, FrozenSet, List, NamedTuple, Optional
 
-from psxgpu.fuzz.conditions import BLENDING, DEPTHS, INCIDENTAL, NO_CONDITIONS
+from psxgpu.fuzz.conditions import BLENDING, DEPTHS, INCIDENTAL, NO_CONDITIONS, VAGUE
 from psxgpu.fuzz.kinds import READS, STATUS, Kind, sentence
 from psxgpu.fuzz.rules import Samples
-from psxgpu.packets.grammar import COPY, LINE, LOAD, POLYGON, RECTANGLE
 from psxgpu.players.looks import OUTSIDE, SHAPES, similar
 
-# What packets of several names share: one cause has the same condition in all of them.
-TEXTURES = frozenset(['window', 'a window mask with a hole', 'a window mask X from 16', 'a window mask Y from 16',
-                      'a window offset outside of its mask', 'a page over the right edge',
-                      'a palette over the right edge', 'a palette from row 256', 'an earlier packet', *DEPTHS])
-SETTINGS = frozenset(['dither', 'area-start', 'area-end', 'offset', 'a sum beyond eleven bits',
-                      'an area corner with Y above 511', 'an empty area', *BLENDING])
-SIZES = frozenset(['unused-bits', 'forced-mask', 'tested-mask', 'size 0',
-                   'size bits above its fields', 'its target over the right edge', 'its target over the bottom'])
-SHARED = [(frozenset([POLYGON, RECTANGLE]), TEXTURES), (frozenset([POLYGON, LINE, RECTANGLE]), SETTINGS),
-          (frozenset([POLYGON, LINE, RECTANGLE]), frozenset(['forced-mask', 'tested-mask'])),
-          (frozenset([COPY, LOAD]), SIZES),
-          (frozenset([STATUS, READS]), frozenset(['GP1(11h..1Fh)', 'GP1(20h..3Fh)', 'GP1 from 40h']))]
 GENERAL = NO_CONDITIONS.union(DEPTHS, BLENDING)     # two causes may need the same one of these
+SAYS_NOTHING = frozenset(['texture', 'shades', 'quad', 'polyline'])
 Facts = FrozenSet[str]
 
 
@@ -39,9 +27,14 @@ class Cause(NamedTuple):
         return sentence(', '.join(self.labels), self.kind.needs, self.kind.look)
 
 
-def shared(one: str, other: str) -> Facts:
-    """Returns the facts that are the same cause in packets of two names."""
-    return frozenset().union(*(facts for names, facts in SHARED if {one, other} <= names))
+def shared_rule(one: Kind, other: Kind) -> Optional[Facts]:
+    """Returns what one cause of kinds of two packets needs: the same facts, about the same rule of docs/MACHINE.md.
+    Those of whole classes count only if both look alike; a texture or shades alone say nothing."""
+    both = one.rule & other.rule
+    if {one.name, other.name} == {STATUS, READS}:       # the same control word is seen in both
+        return both if both in (one.rule, other.rule) and any(fact.startswith('GP1') for fact in both) else None
+    is_told = bool(one.rule - VAGUE or one.rule - SAYS_NOTHING and other.look in similar(one.look))
+    return one.rule if one.rule == other.rule and is_told and one.decision == other.decision else None
 
 
 def outside_rule(one: Kind, other: Kind) -> Optional[Facts]:
@@ -56,24 +49,19 @@ def outside_rule(one: Kind, other: Kind) -> Optional[Facts]:
 def common_rule(one: Kind, other: Kind, samples: Samples) -> Optional[Facts]:
     """Returns the facts that one cause of two kinds needs; None if they are two causes.
 
-    Of one packet, they are one cause if one needs all that the other needs; or if they look alike, and share a
-    condition or the smallest capture of one has all that the other needs. Of two packets, if one needs all that the
-    other needs and this is about what both packets have."""
+    Of one packet, they are one cause if one needs all that the other needs, or if they look alike and share a
+    condition. Of two packets, if both need the same facts about the same rule. What else is one cause, experiments have
+    to show (`psxgpu.fuzz.asking`)."""
     both = one.rule & other.rule
     if one.name != other.name:
-        is_shared = both in (one.rule, other.rule) and not both.isdisjoint(shared(one.name, other.name))
-        return both if is_shared else None
+        return shared_rule(one, other)
     if OUTSIDE in (one.look, other.look):
         return outside_rule(one, other)
     is_alike = other.look in similar(one.look)
     if both in (one.rule, other.rule):
         return both if is_case(one, other, samples) else None
-    if not is_alike:
-        return None
-    if any(fact not in GENERAL and not fact.startswith(INCIDENTAL) for fact in both):
-        return both
-    return next((a.rule for a, b in ((one, other), (other, one))
-                 if a.rule - NO_CONDITIONS and a.rule <= frozenset(b.seed)), None)
+    is_told = any(fact not in GENERAL and not fact.startswith(INCIDENTAL) for fact in both)
+    return both if is_alike and is_told else None
 
 
 def is_case(one: Kind, other: Kind, samples: Samples) -> bool:
@@ -87,22 +75,34 @@ def is_case(one: Kind, other: Kind, samples: Samples) -> bool:
     return is_alike and not samples.is_apart(special.name, special.look, general.rule, special.rule)
 
 
+def shown_rule(one: Cause, other: Cause, kinds: Dict[str, Kind]) -> Optional[Facts]:
+    """Returns the facts of the more general one of two causes, if experiments have shown that a kind of one is a case
+    of a kind of the other."""
+    for special, general in ((one, other), (other, one)):
+        if any(not set(kinds[key].same).isdisjoint(general.keys) for key in special.keys):
+            return general.kind.rule
+    return None
+
+
 def causes(kinds: Dict[str, Kind], samples: Samples) -> List[Cause]:
     """Returns the causes of kinds, each with the kind of the fewest facts and words."""
     order = sorted(kinds, key=lambda key: (len(kinds[key].rule) or 99, kinds[key].words, key))
     found = [Cause(key, kinds[key], [key], [kinds[key].label]) for key in order]
     at = 0
     while at < len(found):
-        joined = joined_with(found, at, samples)
+        joined = joined_with(found, at, kinds, samples)
         at = 0 if joined else at + 1
     return found
 
 
-def joined_with(found: List[Cause], at: int, samples: Samples) -> bool:
-    """Puts a later cause to the one at `at`, if both are one. Returns whether it did."""
+def joined_with(found: List[Cause], at: int, kinds: Dict[str, Kind], samples: Samples) -> bool:
+    """Puts a later cause to the one at `at`, if both are one: by what experiments have shown, or by their facts.
+    Returns whether it did."""
     cause = found[at]
     for other in found[at + 1:]:
-        rule = common_rule(cause.kind, other.kind, samples)
+        rule = shown_rule(cause, other, kinds)
+        if rule is None:
+            rule = common_rule(cause.kind, other.kind, samples)
         if rule is not None:
             found.remove(other)
             found[at] = Cause(cause.key, replace(cause.kind, needs=sorted(rule)), cause.keys + other.keys,

@@ -9,7 +9,7 @@ from typing import Dict, FrozenSet, Iterable, List, Sequence, Set, Tuple
 
 from psxgpu.packets.grammar import (COPY, FILL, LINE, LOAD, POLYGON, POLYLINE, QUAD, RECTANGLE, SEMI, SHADED, SIZE_CODE,
                                     TEXTURED, cells_of)
-from psxgpu.packets.known import Packet, has_colors, is_far, is_scaled, is_shaded_line, is_sloped
+from psxgpu.packets.known import Packet, has_colors, is_scaled, is_shaded_line, is_sloped
 from psxgpu.packets.parts import line_parts, polygon_parts, rectangle_parts, signed, texcoord_of, vertex_of
 from psxgpu.players.bench import Experiment, Words, registers_of
 from psxgpu.reduce.features import FEATURES, active, name_of
@@ -116,11 +116,17 @@ def drawn_facts(packet: Packet) -> Set[str]:
     xs, ys = [x + ox for x, _ in points], [y + oy for _, y in points]
     left, top, right, bottom = (registers[op] >> shift & 0x3FF for op in (0xE3, 0xE4) for shift in (0, 10))
     return out | area_facts(registers) | holding({
-        'a sum beyond eleven bits': is_far(packet),
+        'a sum beyond eleven bits': has_far_vertex(packet, points, (ox, oy)),
         'wider than 1023': max(xs) - min(xs) > 1023, 'higher than 511': max(ys) - min(ys) > 511,
         'a negative offset X': ox < 0, 'a negative offset Y': oy < 0, 'an offset Y': oy != 0,
         'cut on the left': min(xs) < left <= max(xs), 'cut at the top': min(ys) < top <= max(ys),
         'cut on the right': max(xs) > right >= min(xs), 'cut at the bottom': max(ys) > bottom >= min(ys)})
+
+
+def has_far_vertex(packet: Packet, points: Sequence[Tuple[int, int]], offset: Tuple[int, int]) -> bool:
+    """Returns whether the sum of a vertex and the offset has more than eleven bits; of a rectangle, its corner."""
+    vertices = points[:1] if packet.name == RECTANGLE else points
+    return any(not -1024 <= at + by < 1024 for point in vertices for at, by in zip(point, offset))
 
 
 def area_facts(registers: Registers) -> Set[str]:

@@ -12,6 +12,7 @@ from psxgpu.fuzz.making import MOST_CELLS, Maker, packed
 from psxgpu.fuzz.nearby import Nearby
 from psxgpu.fuzz.reducing import Found, processor_time, reduce_kind
 from psxgpu.fuzz.rules import Samples
+from psxgpu.output import Content
 from psxgpu.packets.generated import background
 from psxgpu.players.bench import Bench, Experiment, cells_of, how_lost
 from psxgpu.players.looks import LOST, OUTSIDE
@@ -168,8 +169,9 @@ class Hunt:
         begin = self.time
         self.counts['reductions'] += 1
         if new.look in (OUTSIDE, LOST):
-            kind, files = kind_of(new.experiment, new.look, needs), []  # type: Kind, List[Any]
+            kind = kind_of(new.experiment, new.look, needs)
             kind.lines = [how_lost(self.bench, new.experiment)] if new.look == LOST else []
+            files = [Content('.capture', self.bench.capture([new.experiment], [([], [])]))]
         else:
             found = reduce_kind(self.bench, new.experiment, new.look, needs)
             is_last = self.tried[name_of(new.experiment[-1]), new.look, needs] >= MOST_TRIED
@@ -181,7 +183,7 @@ class Hunt:
         kind.found = dict(seconds=self.time, captures=self.counts['captures'], reduced=round(self.time - begin, 1))
         key = '%s-%d-%d' % (kind.label, self.seed, len(self.store.kinds) + 1)
         path = self.store.path('kinds/' + key)
-        self.store.put(key, kind, [file._replace(path=path + os.path.splitext(file.path)[1]) for file in files])
+        self.store.put(key, kind, [file._replace(path=path + os.path.splitext('x' + file.path)[1]) for file in files])
         self.seen[key] += 1
 
     def missing(self, found: Optional[Found], is_last: bool) -> str:

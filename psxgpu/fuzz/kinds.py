@@ -47,6 +47,7 @@ class Kind:
     lines: List[str] = field(default_factory=list)
     tests: List[str] = field(default_factory=list)
     found: Dict[str, float] = field(default_factory=dict)
+    same: List[str] = field(default_factory=list)       # kinds of which it is a case, as experiments have shown
 
     @property
     def rule(self) -> Facts:

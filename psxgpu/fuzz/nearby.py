@@ -6,13 +6,15 @@ from __future__ import annotations
 
 import itertools
 from collections import Counter
-from typing import Dict, FrozenSet, Iterable, Iterator, List, NamedTuple, Optional, Sequence
+from typing import Callable, Dict, FrozenSet, Iterable, Iterator, List, NamedTuple, Optional, Sequence
 
 from psxgpu.fuzz.conditions import EARLIER, INCIDENTAL, NO_CONDITIONS, drawing, facts_of
 from psxgpu.fuzz.making import MOST_CELLS, Maker
 from psxgpu.players.bench import Bench, Experiment, cells_of
 from psxgpu.players.looks import similar
 from psxgpu.reduce.features import FEATURES, active, name_of
+from psxgpu.reduce.plainer import segments, triangles
+from psxgpu.reduce.units import Unit
 
 FRESH, PAIRS = 96, 10           # experiments around another one; those that are tried without a feature
 LEAST, SIDE, TRIES = 8, 16, 600     # experiments that lack a condition, and how many are made to get them
@@ -52,10 +54,16 @@ def most_telling(seen: Sequence[Seen], facts: Iterable[str]) -> Optional[str]:
     return best if best and values[best] else None
 
 
+PARTS: Dict[str, Callable[[Unit], Iterator[Unit]]] = {'quad': triangles, 'polyline': segments}
+
+
 def without(fact: str, one: Experiment) -> Experiment:
-    """Returns an experiment without a feature, or without its earlier packets."""
+    """Returns an experiment without a feature, or without its earlier packets. A quad becomes both triangles, and a
+    polyline all segments: one of them alone may agree by chance."""
     if fact == EARLIER:
         return (*one[:len(one) - len(drawing(one))], one[-1])
+    if fact in PARTS and FEATURES[fact](one[-1]) != one[-1]:
+        return (*one[:-1], *(tuple(part.words) for part in PARTS[fact](Unit(name_of(one[-1]), one[-1]))))
     return tuple(map(FEATURES[fact], one))
 
 
@@ -80,7 +88,7 @@ class Nearby:
             one = self.middle
             for _ in range(self.maker.random.choice((1, 1, 2, 3))):
                 one = self.maker.changed(one)
-            if name_of(one[-1]) == self.name and cells_of(one) <= MOST_CELLS:
+            if name_of(one[-1]) == self.name:
                 yield one
 
     def features(self) -> Facts:
@@ -101,7 +109,8 @@ class Nearby:
         found: List[Experiment] = []
         for one in self.changed():
             has = facts_of(one)
-            if chosen <= has and any(lacking[fact] < SIDE for fact in facts - has):
+            if (chosen <= has and any(lacking[fact] < SIDE for fact in facts - has)
+                    and cells_of(one) <= MOST_CELLS):
                 lacking.update(facts - has)
                 found.append(one)
             if all(lacking[fact] >= SIDE for fact in facts):
@@ -120,7 +129,8 @@ class Nearby:
     def rule(self) -> Facts:
         """Returns the facts that it needs: features, then the condition that tells most, then what tells more among
         those that have it."""
-        self.play([self.middle, *itertools.islice(self.changed(), FRESH)])
+        small = (one for one in self.changed() if cells_of(one) <= MOST_CELLS)
+        self.play([self.middle, *itertools.islice(small, FRESH)])
         chosen, conditions = self.features(), self.facts - NO_CONDITIONS
         while True:
             self.aim(conditions - chosen, chosen)

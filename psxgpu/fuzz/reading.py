@@ -9,7 +9,9 @@ from psxgpu.command import ToolError
 from psxgpu.fuzz.conditions import transfer_facts
 from psxgpu.fuzz.hunt import Hunt
 from psxgpu.fuzz.kinds import READS, STATUS, Kind
+from psxgpu.output import Content
 from psxgpu.packets.grammar import LINE, LOAD, POLYLINE, STORE, data_words, ends_polyline, name_and_length
+from psxgpu.players.looks import LOST
 from psxgpu.players.trial_run import words_of
 from psxgpu.reduce.faults import WordsDiffer
 from psxgpu.reduce.job import Job, Wanted
@@ -95,6 +97,12 @@ def bits_of(look: str) -> int:
     return sum(1 << at for at in found) or ALL
 
 
+def texts_of(records: Sequence[Record]) -> List[str]:
+    """Returns records as texts, of each the first words."""
+    return ['%s %s' % (KINDS[kind].lower(), ' '.join('%08x' % word for word in part[:12]))
+            for kind, _, part in records]
+
+
 class BitsDiffer(WordsDiffer):
     """A word that is read, or a status, differs in one of these bits."""
 
@@ -170,13 +178,16 @@ class Reading:
         """Compares sequences in one run of each player. If a player breaks down, in two halves."""
         hunt, half = self.hunt, len(found) // 2
         data = HEADS[1] + b''.join(encode(*record) for one in found for record in one) + bytes(4)
+        ours = words_of(hunt.bench.ours, data, hunt.bench.seconds)
         try:
-            ours, theirs = (words_of(player, data, hunt.bench.seconds)
-                            for player in (hunt.bench.ours, hunt.bench.theirs))
-        except ToolError:
-            hunt.counts['reads without words'] += not half
+            theirs = words_of(hunt.bench.theirs, data, hunt.bench.seconds)
+            if len(theirs) != len(ours):
+                raise ToolError('%s: %d words of %d' % (hunt.bench.theirs.text, len(theirs), len(ours)))
+        except ToolError as how:
             for part in (found[:half], found[half:]) if half else ():
                 self.judge(part)
+            if not half:
+                self.keep_lost(found[0], data, str(how))
             return
         at = reduced = 0
         for records in found:
@@ -188,10 +199,23 @@ class Reading:
             if first and reduced < MOST_REDUCED:
                 reduced += self.look_into(records, *first)
 
+    def keep_lost(self, records: List[Record], data: bytes, how: str) -> None:
+        """Keeps a sequence for which their player gives no words, unless a kind explains it."""
+        hunt, facts = self.hunt, facts_of(records)
+        known = next((key for key, kind in hunt.store.kinds.items()
+                      if kind.name == READS and kind.look == LOST and kind.rule <= facts), None)
+        words = sum(len(part) for _, _, part in records)
+        kind = Kind(READS, READS, LOST, sorted(facts), sorted(facts), words, texts_of(records), [how],
+                    found=dict(seconds=hunt.time, captures=hunt.counts['captures']))
+        key = known or '%s-%d-%d' % (READS, hunt.seed, len(hunt.store.kinds) + 1)
+        if not known:
+            hunt.store.put(key, kind, [Content(hunt.store.path('kinds/%s.capture' % key), data)])
+        hunt.seen[key] += 1
+
     def unknown(self, new: New) -> int:
         """Returns the bits of a difference that no kind has. Counts one that all kinds together have."""
         found = {key: kind for key, kind in self.hunt.store.kinds.items()
-                 if kind.name == new.name and kind.rule <= new.facts}
+                 if kind.name == new.name and kind.look != LOST and kind.rule <= new.facts}
         rest = new.bits
         for kind in found.values():
             rest &= ~bits_of(kind.look)
@@ -227,11 +251,9 @@ class Reading:
         if not self.unknown(New(name, bits, facts)):
             return
         look = bits_text(name, bits)
-        texts = ['%s %s' % (KINDS[kind].lower(), ' '.join('%08x' % word for word in part[:12]))
-                 for kind, _, part in small]
-        kind = Kind(name, name, look, sorted(facts), sorted(facts), found.words, texts, report_lines(found)[1:],
-                    found=dict(seconds=hunt.time, captures=hunt.counts['captures'],
-                               reduced=round(hunt.time - begin, 1)))
+        kind = Kind(name, name, look, sorted(facts), sorted(facts), found.words, texts_of(small),
+                    report_lines(found)[1:], found=dict(seconds=hunt.time, captures=hunt.counts['captures'],
+                                                        reduced=round(hunt.time - begin, 1)))
         key = '%s-%d-%d' % (name, hunt.seed, len(hunt.store.kinds) + 1)
         path = hunt.store.path('kinds/' + key)
         hunt.store.put(key, kind, list(files_of(found, path, ['theirs: ' + hunt.bench.theirs.text])))

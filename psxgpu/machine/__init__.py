@@ -16,9 +16,9 @@ docs/LIBRARY.md has a page on this module. Its names are also those of the packa
 """
 from psxgpu.machine.gpu import Machine
 from psxgpu.machine.library import Error, Missing, OutOfMemory, Refused, library
-from psxgpu.machine.playing import MODES, play
+from psxgpu.machine.playing import MODES, play, play_size, play_to
 from psxgpu.machine.recording import Frame, Packet, Record, Recording
 from psxgpu.machine.values import Note, Registers, Snapshot
 
 __all__ = ['Error', 'Frame', 'MODES', 'Machine', 'Missing', 'Note', 'OutOfMemory', 'Packet', 'Record', 'Recording',
-           'Refused', 'Registers', 'Snapshot', 'library', 'play']
+           'Refused', 'Registers', 'Snapshot', 'library', 'play', 'play_size', 'play_to']

@@ -10,7 +10,7 @@ import sys
 from typing import Any, List, Optional
 
 NAME = {'win32': 'psxgpu.dll', 'darwin': 'libpsxgpu.1.dylib'}.get(sys.platform, 'libpsxgpu.so.1')
-NO_PICTURE, NO_ROOM, NO_MEMORY, NO_CELL = 10, 11, 13, 17
+NO_PICTURE, NO_MEMORY, NO_CELL = 10, 13, 17
 LINE_ROOM = 96          # PSXGPU_LINE_ROOM of c/psxgpu.h
 
 
@@ -27,11 +27,14 @@ class OutOfMemory(Error, MemoryError):
 
 
 class Refused(Error):
-    """The library refused a call and left the machine unchanged. `output`: what `play` wrote before the refusal."""
+    """The library refused a call and left the machine unchanged. `written`: the bytes of output before the refusal, of
+    `play`, `play_size` and `play_to`. `output`: these bytes, of `play` alone."""
 
-    def __init__(self, code: int, event: int = 0, place: int = 0, word: int = 0, output: bytes = b'') -> None:
+    def __init__(self, code: int, event: int = 0, place: int = 0, word: int = 0, output: bytes = b'',
+                 written: int = 0) -> None:
         super().__init__('psxgpu: ' + line_of(Ended(0, event, place, word, code)))
         self.code, self.event, self.place, self.word, self.output = code, event, place, word, output
+        self.written = written
 
 
 for error in (Error, Missing, OutOfMemory, Refused):
@@ -39,7 +42,7 @@ for error in (Error, Missing, OutOfMemory, Refused):
 
 
 class Handle(ctypes.Structure):
-    """psxgpu_machine of c/psxgpu.h."""
+    """psxgpu of c/psxgpu.h."""
     _fields_ = [('at', ctypes.c_void_p), ('open', ctypes.c_uint32)]
 
 
@@ -47,6 +50,11 @@ class Ended(ctypes.Structure):
     """psxgpu_ended of c/psxgpu.h."""
     _fields_ = [('written', ctypes.c_size_t), ('event', ctypes.c_uint64), ('place', ctypes.c_uint64),
                 ('word', ctypes.c_uint32), ('code', ctypes.c_uint32)]
+
+
+class Output(ctypes.Structure):
+    """psxgpu_output of c/psxgpu.h."""
+    _fields_ = [('at', ctypes.c_void_p), ('open', ctypes.c_uint32)]
 
 
 class RawNote(ctypes.Structure):
@@ -58,8 +66,8 @@ class RawNote(ctypes.Structure):
 
 HANDLE, WORD, SIZE = ctypes.POINTER(Handle), ctypes.c_uint32, ctypes.c_size_t
 BYTES, OUT_WORDS, OUT_HALF = ctypes.c_void_p, ctypes.POINTER(WORD), ctypes.POINTER(ctypes.c_uint16)
-OUT_SIZE, ENDED = ctypes.POINTER(SIZE), ctypes.POINTER(Ended)
-# The calls of c/psxgpu.h.
+OUT_SIZE, ENDED, OUTPUT = ctypes.POINTER(SIZE), ctypes.POINTER(Ended), ctypes.POINTER(Output)
+# The calls of c/psxgpu.h, except psxgpu_play_to: an exception of Python cannot pass through C.
 CALLS = {
     'new': [HANDLE], 'free': [HANDLE], 'clear': [HANDLE], 'set_tall': [HANDLE],
     'gp0': [HANDLE, WORD], 'gp0_words': [HANDLE, BYTES, SIZE], 'gp1': [HANDLE, WORD],
@@ -72,10 +80,14 @@ CALLS = {
     'registers': [HANDLE, BYTES, SIZE],
     'save': [HANDLE, BYTES, SIZE, OUT_SIZE], 'load': [HANDLE, BYTES, SIZE, ENDED],
     'gp0_notes': [HANDLE, BYTES, SIZE, ctypes.POINTER(RawNote), SIZE, OUT_SIZE],
-    'play': [WORD, WORD, BYTES, SIZE, BYTES, SIZE, ENDED],
+    'play': [WORD, WORD, BYTES, SIZE, BYTES, SIZE, ENDED], 'play_size': [WORD, WORD, BYTES, SIZE, ENDED],
+    'play_output': [WORD, WORD, BYTES, SIZE, OUTPUT, ENDED],
+    'output_copy': [OUTPUT, SIZE, BYTES, SIZE], 'output_free': [OUTPUT],
     'version': [], 'text': [WORD], 'line': [ENDED, BYTES, SIZE],
 }
-RESULTS = {'free': None, 'version': ctypes.c_char_p, 'text': ctypes.c_char_p, 'line': SIZE}     # of others: a code
+# What a call returns. Others return a code.
+RESULTS = {'free': None, 'output_free': None, 'output_copy': SIZE, 'line': SIZE, 'version': ctypes.c_char_p,
+           'text': ctypes.c_char_p}
 
 
 class Library:
@@ -139,5 +151,5 @@ def check(code: int, ended: Optional[Ended] = None, output: bytes = b'') -> None
     if code == NO_MEMORY:
         raise OutOfMemory('psxgpu: memory')
     if code:
-        event, place, word = (ended.event, ended.place, ended.word) if ended else (0, 0, 0)
-        raise Refused(code, event, place, word, output)
+        end = ended or Ended()
+        raise Refused(code, end.event, end.place, end.word, output, end.written)

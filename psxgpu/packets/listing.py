@@ -1,16 +1,19 @@
 """The entries of a capture in order: packets as `list` writes them with their fields, and events at the ports."""
 import contextlib
 import io
+import itertools
 import re
-from typing import IO, Iterable, Iterator, List, NamedTuple, Optional, Sequence
+from array import array
+from typing import IO, Iterable, Iterator, List, NamedTuple, Optional, Sequence, Union
 
 from psxgpu.command import ToolError, reading
 from psxgpu.packets.control import control
 from psxgpu.packets.fields import fields
 from psxgpu.packets.parts import Registers
 from psxgpu.packets.grammar import COPY, ENVIRONMENT, FILL, FINISH, IRQ, LINE, LOAD, NOP, POLYGON, RECTANGLE, STORE
+from psxgpu.packets.run_texts import HEADS, PolygonLines
+from psxgpu.packets.runs import Run, pieces
 from psxgpu.packets.split import Splitter
-from psxgpu.packets.texts import Texts
 from psxgpu.players import player
 from psxgpu.players.flat import is_flat
 from psxgpu.stream import BEGIN, DMA, GP0, GP1, KINDS, RAM, SKIP, STAT, Record, Stream, count_of
@@ -19,7 +22,6 @@ CONTROL = KINDS[GP1].lower()
 # The names that entries can have: those of packets, and of events at the ports.
 NAMES = (FILL, POLYGON, LINE, RECTANGLE, COPY, LOAD, STORE, ENVIRONMENT, NOP, IRQ, FINISH,
          *(kind.lower() for number, kind in enumerate(KINDS) if number > GP0))
-HEADS = Texts[int]('{:08x}'.format)          # the first words of packets as `list` writes them
 
 
 class Entry(NamedTuple):
@@ -40,6 +42,46 @@ class Entry(NamedTuple):
         return [control(self.words[0], self.rows)] if self.name == CONTROL else []
 
 
+class Together:
+    """The entries of a run, and their lines of `list`: fewer than packets if the player stops before."""
+
+    def __init__(self, run: Run, lines: List[str], polygons: PolygonLines, capture: str) -> None:
+        self.run, self.lines, self.polygons, self.capture = run, lines, polygons, capture
+
+    def texts(self) -> Optional[List[str]]:
+        """Returns the entries as lines with their fields. None: they have to be looked at one by one."""
+        return self.polygons.texts(self.run, self.lines) if self.run.name == POLYGON else None
+
+    def events(self) -> Sequence[int]:
+        """Returns the events of the first and of the last entry."""
+        first, last = self.entry(0).event, self.entry(len(self.lines) - 1).event
+        return first, last
+
+    def entry(self, number: int) -> Entry:
+        """Returns an entry, without the registers after it."""
+        return packet_entry(self.lines[number], self.run.packet(number), self.polygons.splitter, self.capture)
+
+    def entries(self, numbers: Optional[Iterable[int]] = None) -> Iterator[Entry]:
+        """Returns the entries, or those of some numbers, with the registers after each."""
+        splitter = self.polygons.splitter
+        for number in range(len(self.lines)) if numbers is None else numbers:
+            if self.run.name == POLYGON:
+                splitter.change(POLYGON, self.run.packet(number))
+            yield self.entry(number)
+
+
+Part = Union[Entry, Together]
+
+
+def one_by_one(parts: Iterable[Part]) -> Iterator[Entry]:
+    """Returns the entries of parts."""
+    for part in parts:
+        if isinstance(part, Together):
+            yield from part.entries()
+        else:
+            yield part
+
+
 def until_fault(records: Iterable[Record]) -> Iterator[Record]:
     """Returns the records of a capture. One that is cut or bad ends early: the player says so."""
     with contextlib.suppress(ToolError):
@@ -54,17 +96,30 @@ class Listing:
         self.refusal: Optional[str] = None
         self.last_event: Optional[int] = None
 
-    def entries(self, flat: IO[bytes], has_ports: bool) -> Iterator[Entry]:
+    def packets(self, words: "array[int]", lines: Iterator[str], polygons: PolygonLines) -> Iterator[Part]:
+        """Returns the packets that words complete, as far as the player lists them."""
+        for piece in pieces(polygons.splitter, words):
+            if isinstance(piece, Run):
+                some = list(itertools.islice(lines, piece.packets))
+                if some:
+                    yield Together(piece, some, polygons, self.name)
+                continue
+            line = next(lines, None)
+            if line is None:
+                return
+            yield packet_entry(line, piece[1], polygons.splitter, self.name)
+
+    def entries(self, flat: IO[bytes], has_ports: bool) -> Iterator[Part]:
         """Returns the packets of a flat capture and, if asked for, its events at the ports. Raises ToolError if the
         player's list is not that of the words."""
         stream, event = Stream(flat, self.name), 1
         splitter = Splitter(stream.version == 3)
+        polygons = PolygonLines(splitter)
         with player.playing(self.player, ['list'], self.path) as listed:
             lines = io.TextIOWrapper(listed.out, 'utf-8', 'replace', '\n')
             for kind, count, words in until_fault(stream.gathered()):
                 if kind == GP0:
-                    for (_, packet, _), line in zip(splitter.push(words), lines):
-                        yield packet_entry(line, packet, splitter, self.name)
+                    yield from self.packets(words, lines, polygons)
                     event += count
                     continue
                 if kind == GP1:
@@ -105,13 +160,17 @@ class Listing:
             yield port
             port = next(ports, None)
 
-    def __iter__(self) -> Iterator[Entry]:
+    def parts(self) -> Iterator[Part]:
+        """Returns the entries, with runs as one part where events are those of a flat capture."""
         if is_flat(self.path):
             with reading(self.path) as file:
                 yield from self.entries(file, True)
         else:
             with player.playing(self.player, ['flat'], self.path) as run:
-                yield from self.merged(self.entries(run.out, False))
+                yield from self.merged(one_by_one(self.entries(run.out, False)))
+
+    def __iter__(self) -> Iterator[Entry]:
+        return one_by_one(self.parts())
 
 
 def packet_entry(line: str, words: List[int], splitter: Splitter, capture: str) -> Entry:

@@ -6,6 +6,8 @@ that it may write are read, and get back what they had on the ground. So a diffe
 from __future__ import annotations
 
 import array
+from functools import lru_cache
+from itertools import takewhile
 from typing import Dict, FrozenSet, List, NamedTuple, Optional, Sequence, Tuple
 
 from psxgpu.command import ToolError
@@ -29,6 +31,7 @@ AROUND = 2                      # cells around a box that are looked at
 RESET = (GP1 << 24 | 1, 0)
 DROP = (GP1 << 24 | 1, 0x01000000)          # ends what is unfinished
 IDLE = (0,) * 12                # ends packets of a player that keeps them unfinished
+REGISTERS = range(0xE1, 0xE7)
 CLEAR = 0x01000000              # empties the caches of players that have some
 Words = Tuple[int, ...]
 Experiment = Tuple[Words, ...]
@@ -86,11 +89,15 @@ def wrapped_targets(name: str, words: Sequence[int], registers: Dict[int, int]) 
     return target_of(name, moved, {**registers, 0xE5: 0})
 
 
+@lru_cache(4096)
 def boxes_of(experiment: Experiment) -> Boxes:
     """Returns the boxes that the packets of an experiment may write, and those of loads before the last packet, which
     are not looked at."""
     splitter, seen, loaded = Splitter(), [], []     # type: Splitter, List[Box], List[Box]
-    for k, packet in enumerate(experiment):
+    settings = list(takewhile(lambda packet: packet[0] >> 24 in REGISTERS, experiment))
+    for _ in splitter.push([word for packet in settings for word in packet]):
+        pass
+    for k, packet in enumerate(experiment[len(settings):], len(settings)):
         is_load = name_and_length(packet[0])[0] == LOAD
         for name, words, _ in splitter.push(packet[:3] if is_load else packet):
             wrapped = wrapped_targets(name, words, splitter.registers)

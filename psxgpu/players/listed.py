@@ -1,9 +1,12 @@
 """A flat capture packet by packet, with the areas that `list` has for them."""
 from __future__ import annotations
 
-from typing import Dict, Iterator, List, NamedTuple, Optional, Sequence, Tuple
+import itertools
+from array import array
+from typing import IO, Dict, Iterator, List, NamedTuple, Optional, Sequence, Tuple, Union
 
 from psxgpu.command import ToolError
+from psxgpu.packets.runs import Run, pieces
 from psxgpu.packets.split import Splitter
 from psxgpu.players import player
 from psxgpu.stream import GP0, GP1, Stream, count_of
@@ -12,6 +15,8 @@ Area = Tuple[int, int, int, int]        # both corners inside
 # What `Splitter.push` gives (the name, the words, and how many words of the record were taken), and the area or None. A
 # plain tuple, since a minute has 1.7 million packets.
 Packet = Tuple[Tuple[str, List[int], int], Optional[Area]]
+WORDS = 7               # of a line with an area
+NO_AREA = b'-\n'        # the end of one without
 
 
 class Record(NamedTuple):
@@ -20,7 +25,7 @@ class Record(NamedTuple):
     number: int
     words: Sequence[int]
     before: int
-    packets: Iterator[Packet]
+    packets: Iterator[Piece]
 
 
 def area_of(line: bytes) -> Optional[Area]:
@@ -32,6 +37,30 @@ def area_of(line: bytes) -> Optional[Area]:
         if line.endswith(b' -\n'):
             return None
         raise ToolError('the player lists a line that is not one of `list`: %r' % line[:40]) from error
+
+
+class Listed:
+    """A run, and the lines that `list` has for its packets: fewer if the player stops before. `has_area`: of each line,
+    whether it has an area."""
+
+    def __init__(self, run: Run, lines: List[bytes]) -> None:
+        self.run, self.lines = run, lines
+        self.has_area = [line[-2:] != NO_AREA for line in lines]
+
+    def areas(self) -> List[Optional[Area]]:
+        """Returns the areas of the packets."""
+        return list(map(area_of, self.lines))
+
+    def corners(self) -> Tuple[List[int], List[int], List[int], List[int]]:
+        """Returns x1, y1, x2 and y2 of the packets that have an area."""
+        words = b''.join(itertools.compress(self.lines, self.has_area)).split()
+        if len(words) % WORDS:
+            raise ToolError('the player lists a line that is not one of `list`')
+        x1, y1, x2, y2 = (list(map(int, words[at::WORDS])) for at in range(WORDS - 4, WORDS))
+        return x1, y1, x2, y2
+
+
+Piece = Union[Listed, Packet]
 
 
 class Walk:
@@ -49,14 +78,24 @@ class Walk:
         registers: Dict[int, int] = self.splitter.registers
         return registers
 
+    def listed(self, words: "array[int]", lines: IO[bytes]) -> Iterator[Piece]:
+        """Yields the packets of a record, runs as one. The registers are those before a run."""
+        for piece in pieces(self.splitter, words):
+            if isinstance(piece, Run):
+                yield Listed(piece, list(itertools.islice(lines, piece.packets)))
+                continue
+            line = next(lines, None)
+            if line is None:
+                return
+            yield piece, area_of(line)
+
     def records(self) -> Iterator[Record]:
         """Yields the records. All packets of one have to be taken before the next."""
         before = 0
         with open(self.path, 'rb') as file, player.playing(self.program, ['list'], self.path) as listed:
-            areas = map(area_of, listed.out)
             for kind, count, words in Stream(file, self.name):
                 if kind == GP1:
                     self.splitter.control(words[0])
-                packets = zip(self.splitter.push(words), areas) if kind == GP0 else iter(())
+                packets = self.listed(words, listed.out) if kind == GP0 else iter(())
                 yield Record(kind, count, words, before, packets)
                 before += count_of(kind, count)

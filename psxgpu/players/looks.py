@@ -2,7 +2,7 @@
 from __future__ import annotations
 
 import array
-from typing import FrozenSet, List, Sequence
+from typing import FrozenSet, Iterable, List, Sequence, Tuple
 
 NOTHING, ALONE, EDGES, OTHERS = 'theirs draws nothing', 'theirs alone draws', 'cells at its edges', 'other cells'
 BIT_15, STEP, COLOURS = 'bit 15', 'one step of a channel', 'other colours'
@@ -35,6 +35,16 @@ def value_of(mine: int, other: int) -> str:
     return BIT_15 if not steps else STEP if steps == 1 else COLOURS
 
 
+def farthest(pairs: Iterable[Tuple[int, int]]) -> Sequence[str]:
+    """Returns how the values differ that are the farthest from each other; nothing if there are none."""
+    found = -1
+    for pair in pairs:
+        found = max(found, VALUES.index(value_of(*pair)))
+        if VALUES[found] == COLOURS:
+            break
+    return VALUES[found:found + 1] if found >= 0 else ()
+
+
 def differing(ours: array.array[int], theirs: array.array[int], width: int) -> List[int]:
     """Returns the places of the first cells that differ."""
     out: List[int] = []
@@ -52,6 +62,5 @@ def looks_of(before: array.array[int], ours: array.array[int], theirs: array.arr
     values, the farthest."""
     places = differing(ours, theirs, width)
     shapes = [k for k in places if before[k] in (ours[k], theirs[k])]
-    found = {value_of(*pair) for pair in {(ours[k], theirs[k]) for k in places if before[k] not in (ours[k], theirs[k])}}
-    values = [value for value in VALUES if value in found][-1:]
-    return frozenset(values + ([shape_of(before, ours, theirs, shapes, width)] if shapes else []))
+    value = farthest({(ours[k], theirs[k]) for k in places if before[k] not in (ours[k], theirs[k])})
+    return frozenset([*value, *([shape_of(before, ours, theirs, shapes, width)] if shapes else [])])

@@ -3,8 +3,9 @@
 A frame ends with a flip, a write of the display start, or with a mark of a recorder. What follows the last one is a
 frame too if it has a packet.
 """
-from typing import List
+from typing import List, Optional
 
+from psxgpu.command import BLOCK
 from psxgpu.corpus.scan import FLIP, MARK, past_head, records, take_words
 from psxgpu.errors import ToolError
 from psxgpu.players import player
@@ -13,12 +14,17 @@ from psxgpu.stream import BEGIN, DMA, GP0, GP1, TURN
 FEEDS = (GP0, DMA, BEGIN, TURN)     # records whose words may complete a packet
 
 
-def last_packet(program: str, path: str) -> int:
+def last_listed(program: str, path: str) -> int:
     """Returns the event of the last packet, or 0 if there is none. What follows a refused event does not count."""
-    line = b''
+    line = rest = b''
     with player.playing(program, ['list'], path) as listed:
-        for line in listed.out:
-            pass
+        while True:
+            block = listed.out.read(BLOCK)
+            if not block:
+                break
+            *lines, rest = (rest + block).rsplit(b'\n', 2)
+            line = lines[-1] if lines else line
+    line = rest or line
     try:
         return int(line.split()[0]) if line else 0
     except ValueError as error:
@@ -27,9 +33,10 @@ def last_packet(program: str, path: str) -> int:
 
 class Ends:
     """The events that end the frames of a recording, in order: `flips` or marks, then with `has_rest` the `last` event.
-    Of a damaged recording, what is before the damage counts, and `damage` says what it is."""
+    Of a damaged recording, what is before the damage counts, and `damage` says what it is. `last_packet`: the event of
+    the last packet, where that is known."""
 
-    def __init__(self, program: str, path: str, opcode: int = FLIP) -> None:
+    def __init__(self, program: str, path: str, opcode: int = FLIP, last_packet: Optional[int] = None) -> None:
         self.flips: List[int] = []
         self.damage = ''
         self.last = fed = 0
@@ -44,7 +51,7 @@ class Ends:
             except ValueError as error:
                 self.damage = str(error)
         before = self.flips[-1] if self.flips else 0
-        self.has_rest = fed > before and last_packet(program, path) > before
+        self.has_rest = fed > before and (last_listed(program, path) if last_packet is None else last_packet) > before
         self.events = self.flips + [self.last] * self.has_rest
 
     def __len__(self) -> int:

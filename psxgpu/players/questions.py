@@ -1,23 +1,23 @@
 """Questions about video memory in the course of a capture, all answered in one go: by libpsxgpu in this process, or by
-the program, as stores and reads."""
+the program, as pictures."""
 from __future__ import annotations
 
 import tempfile
-from array import array
-from typing import Iterator, List, Sequence, Tuple
+from typing import IO, Iterator, List, Sequence, Tuple
 
 from psxgpu import progress
+from psxgpu.command import BLOCK, ToolError
 from psxgpu.machine import Machine, Missing, Record, library
-from psxgpu.packets.grammar import data_words
+from psxgpu.packets.grammar import RESETS
 from psxgpu.players import player
-from psxgpu.stream import GP0, HEADS, MOST_READS, READ, SKIP, STAT, Stream, encode
-from psxgpu.words import corner
+from psxgpu.registers import display_mode, display_start, horizontal_range, vertical_range
+from psxgpu.stream import GP0, GP1, HEADS, READ, SKIP, STAT, Stream, encode
 
 Box = Tuple[int, int, int, int]         # x, y, width, height
 Answer = Tuple[int, bytes]              # the number of a question, and the cells of its box, two bytes each
-LINE = 9                                # bytes of a word that `play` writes
 ROW = 2048                              # bytes of a row of video memory
 END = bytes(4)
+BYTES, CYCLES = 0x13, 4                 # the display mode of 640 pixels of 24 bits, and the cycles of its pixels
 
 
 class Questions:
@@ -82,39 +82,53 @@ class Questions:
                 yield number, cells_of_box(memory[:size], box)
 
     def answers_of_program(self, program: str) -> Iterator[Answer]:
-        """Lets the program play the capture with a store in the place of each question."""
-        boxes, reads, lines = iter(self.boxes), 0, []       # how many lines `play` has before each answer
+        """Lets the program play the capture, with a picture in the place of each question."""
+        boxes = iter(self.boxes)
         with tempfile.TemporaryFile(prefix='psxgpu') as file:
             file.write(self.head)
             for record in self.records():
                 if record.kind == STAT:
-                    file.write(store(next(boxes)))
-                    lines.append(reads)
-                    reads = 0
-                else:
+                    file.write(display(next(boxes)))
+                elif record.kind != GP1 or record.words[0] >> 24 & 0x3F in RESETS:      # the others show pictures
                     file.write(encode(record.kind, record.count, record.words))
-                    reads += record.count if record.kind == READ else 0
             file.write(END)
             file.flush()
             file.seek(0)
-            with player.playing(program, ['play'], file) as run:
-                for number, (before, (_, _, w, h)) in enumerate(zip(lines, self.boxes)):
-                    run.out.read(LINE * before)
-                    words = array('I', bytes.fromhex(run.out.read(LINE * data_words(corner(w, h))).decode('ascii')))
-                    words.byteswap()        # the highest digit comes first
-                    yield number, words.tobytes()
-                run.out.read()
+            with player.playing(program, ['frames'], file) as run:
+                for number, box in enumerate(self.boxes):
+                    yield number, cells_of_picture(run.out, box)
+                while run.out.read(BLOCK):      # the picture after the end
+                    pass
                 run.expect_whole()
 
 
-def store(box: Box) -> bytes:
-    """Returns the records that read a box."""
+def pixels_of_row(width: int) -> int:
+    """Returns how many pixels of three bytes hold a row of cells: a multiple of 4, as widths of pictures are."""
+    return -(-2 * width // 12) * 4
+
+
+def display(box: Box) -> bytes:
+    """Returns the records that show a box, as a picture whose pixels are the bytes of its cells (24 bits a pixel)."""
     x, y, w, h = box
-    records, count = [encode(GP0, 3, [0xC0000000, corner(x, y), corner(w, h)])], data_words(corner(w, h))
-    while count:
-        records.append(encode(READ, min(count, MOST_READS)))
-        count -= min(count, MOST_READS)
-    return b''.join(records)
+    words = [*display_mode(BYTES), *horizontal_range(0, CYCLES * pixels_of_row(w)), *vertical_range(0, h),
+             *display_start(x & 0x3FF, y & 0x3FF)]
+    return b''.join(encode(GP1, 1, [word]) for word in words)
+
+
+def cells_of_picture(file: IO[bytes], box: Box) -> bytes:
+    """Reads the picture of a box. Returns its cells row by row, an even number of them. Raises ToolError if there is
+    another picture."""
+    _, _, w, h = box
+    length = 3 * pixels_of_row(w)
+    head = b'P6\n%d %d\n255\n' % (length // 3, h)
+    found = file.read(len(head) + length * h)
+    if len(found) != len(head) + length * h or not found.startswith(head):
+        raise ToolError('the player writes no picture of %d by %d pixels where it should' % (length // 3, h))
+    if length == 2 * w:
+        return found[len(head):]
+    view = memoryview(found)
+    rows = range(len(head), len(found), length)
+    return b''.join([view[at:at + 2 * w] for at in rows]) + bytes(2 * (w * h % 2))
 
 
 def cells_of_box(memory: memoryview, box: Box) -> bytes:

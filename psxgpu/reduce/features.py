@@ -6,7 +6,8 @@ feature, or the words themselves if they have none.
 from __future__ import annotations
 
 import io
-from typing import Callable, Dict, Iterator, List, Sequence, Tuple
+from functools import lru_cache
+from typing import Callable, Dict, FrozenSet, Iterator, List, Sequence, Tuple
 
 from psxgpu.packets.grammar import (ENVIRONMENT, LINE, LOAD, POLYGON, POLYLINE, QUAD, RAW, RECTANGLE, SEMI, SHADED,
                                     TEXTURED, name_and_length)
@@ -105,7 +106,14 @@ def may_have(unit: Unit) -> bool:
     return unit.is_packet and unit.name in (ENVIRONMENT, *FORMS)
 
 
+@lru_cache(1 << 14)
+def features_of(packet: Words) -> FrozenSet[str]:
+    """Returns the features that one packet has."""
+    return frozenset(feature for feature, change in FEATURES.items() if change(packet) != packet)
+
+
 def active(packets: Sequence[Words]) -> List[str]:
     """Returns the features that packets have. Those of a load are its own."""
     own = [packet for packet in packets if packet is packets[-1] or name_of(packet) != LOAD]
-    return [feature for feature, change in FEATURES.items() if any(change(packet) != packet for packet in own)]
+    found = frozenset().union(*map(features_of, own))   # type: FrozenSet[str]
+    return [feature for feature in FEATURES if feature in found]

@@ -48,14 +48,13 @@ def controls_after(controls: Controls, word: int) -> Controls:
 
 def box_cells(dump: bytes, x: int, y: int, w: int, h: int) -> array[int]:
     """Returns the cells of a box of a dump, row by row. A box that reaches over an edge goes on at the opposite one."""
-    cells, rows = memoryview(dump).cast('H'), len(dump) // (2 * COLUMNS)
+    rows, left = len(dump) // (2 * COLUMNS), x % COLUMNS
     out = array('H')
     for row in range(y, y + h):
         at = row % rows * COLUMNS
-        line = cells[at:at + COLUMNS]
-        left = x % COLUMNS
-        out.extend(line[left:left + w])
-        out.extend(line[:max(0, left + w - COLUMNS)])
+        line = dump[2 * at:2 * (at + COLUMNS)]
+        out.frombytes(line[2 * left:2 * (left + w)])
+        out.frombytes(line[:2 * max(0, left + w - COLUMNS)])
     return out
 
 

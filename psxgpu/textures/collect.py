@@ -1,11 +1,14 @@
 """Goes through a flat capture and asks for each texture where it is used and may have changed."""
 from __future__ import annotations
 
+import collections
+import itertools
 from array import array
-from typing import Dict, Iterator, List, NamedTuple, Optional, Sequence, Tuple
+from typing import Dict, Iterator, List, NamedTuple, Optional, Sequence, Set, Tuple
 
 from psxgpu.packets.grammar import POLYGON, RECTANGLE, SHADED, STORE, TEXTURED
-from psxgpu.players.listed import Area, Packet, Walk
+from psxgpu.packets.runs import Run
+from psxgpu.players.listed import Area, Listed, Packet, Piece, Walk
 from psxgpu.players.questions import Questions
 from psxgpu.stream import GP0
 from psxgpu.textures.sources import Box, Source, source_of
@@ -25,7 +28,8 @@ class Used(NamedTuple):
 
 
 class Ages:
-    """When something was last written to each tile of video memory: the number of a packet."""
+    """When something was last written to each tile of video memory: the number of a packet. Writes to tiles in which no
+    texture is known may be left out."""
 
     def __init__(self, rows: int) -> None:
         self.columns, self.rows = COLUMNS // TILE_W, rows // TILE_H
@@ -50,6 +54,11 @@ class Ages:
         return [row % self.rows * self.columns + column % self.columns
                 for row in range(y // TILE_H, (y + h - 1) // TILE_H + 1)
                 for column in range(x // TILE_W, (x + w - 1) // TILE_W + 1)]
+
+    def area_tiles(self, area: Area) -> List[int]:
+        """Returns the tiles of an area."""
+        x1, y1, x2, y2 = area
+        return self.tiles((x1, y1, x2 - x1 + 1, y2 - y1 + 1))
 
     def of(self, tiles: List[int]) -> int:
         """Returns when one of these tiles was last written."""
@@ -80,6 +89,8 @@ class Collector:
         self.latest: Dict[Source, Asked] = {}
         self.asked: List[Asked] = []
         self.packets = 0
+        self.tracked: Set[int] = set()      # the tiles of all places
+        self.written = 0                    # words of the record that are in the questions
 
     def place_of(self, name: str, words: List[int]) -> Optional[Place]:
         """Returns where a packet takes its texels from, found once for all packets that are alike."""
@@ -93,38 +104,95 @@ class Collector:
             boxes = source.boxes() if source else []
             tiles = [tile for box in boxes for tile in self.ages.tiles(box)]
             self.places[key] = Place(source, boxes, tiles) if source else None
+            self.tracked.update(tiles)
         return self.places[key]
 
-    def use(self, place: Place, event: int) -> bool:
-        """Counts a packet that draws with a source. Returns whether it was asked for again, since it may be new."""
-        last, age = self.latest.get(place.source), self.ages.of(place.tiles)
-        is_new = last is None or last.age < age
+    def use(self, place: Place, event: int, uses: int = 1) -> bool:
+        """Counts packets that draw with a source. Returns whether it was asked for again, since it may be new."""
+        last = self.latest.get(place.source)
+        is_new = last is None or last.age < self.ages.of(place.tiles)
         if last is None or is_new:
-            last = Asked(place.source, event, age, len(self.questions.boxes) + len(place.boxes) - 1)
+            last = Asked(place.source, event, self.packets - 1, len(self.questions.boxes) + len(place.boxes) - 1)
             self.latest[place.source] = last
             self.asked.append(last)
-        last.uses += 1
+        last.uses += uses
         return is_new
 
-    def record(self, words: Sequence[int], before: int, packets: Iterator[Packet]) -> None:
+    def ask(self, place: Place, words: Sequence[int], begin: int, end: int) -> None:
+        """Asks for a place before the packet of these words; after it if it began in an earlier record."""
+        begin = begin if begin >= self.written else end
+        self.questions.words(words[self.written:begin])
+        self.written = begin
+        for box in place.boxes:
+            self.questions.ask(box)
+
+    def packet(self, words: Sequence[int], before: int, one: Packet) -> None:
+        """Adds a packet, with questions before it if its texture may be new."""
+        (name, packet, end), area = one
+        self.packets += 1
+        if not area:
+            return
+        if name in DRAWN and packet[0] >> 24 & TEXTURED:
+            place = self.place_of(name, packet)
+            if place and self.use(place, before + end):
+                self.ask(place, words, end - len(packet), end)
+        if name != STORE:
+            self.ages.write(area, self.packets)
+
+    def alike(self, listed: Listed) -> Dict[Key, Tuple[int, int]]:
+        """Returns the textured packets of a run that have an area: the number of the first one of those that are alike,
+        and how many they are."""
+        run = listed.run
+        opcode, length = run.opcodes[0], run.length
+        if not opcode & TEXTURED:
+            return {}
+        places = range(2, length, 3 if opcode & SHADED else 2) if run.name == POLYGON else range(2, length)
+        columns = [run.words[place::length] for place in places]
+        if run.name == RECTANGLE:
+            columns.insert(0, array('I', run.opcodes))
+        keys = list(itertools.compress(zip(*columns), listed.has_area))
+        numbers = list(itertools.compress(range(run.packets), listed.has_area))
+        first = dict(zip(reversed(keys), reversed(numbers)))
+        return {key: (first[key], uses) for key, uses in collections.Counter(keys).items()}
+
+    def is_apart(self, listed: Listed) -> bool:
+        """Returns whether a run writes no tile of a texture that is known."""
+        x1, y1, x2, y2 = listed.corners()
+        return not x1 or self.tracked.isdisjoint(self.ages.area_tiles((min(x1), min(y1), max(x2), max(y2))))
+
+    def run(self, words: Sequence[int], before: int, listed: Listed) -> None:
+        """Adds a run. If it writes no texture, packets that are alike are added at once."""
+        run, first = listed.run, self.packets
+        found = self.alike(listed)
+        places = {}
+        for key, (number, _) in found.items():
+            packet = run.packet(number)
+            if run.name == POLYGON:
+                self.walk.splitter.change(POLYGON, packet)
+            places[key] = self.place_of(run.name, packet)
+        if not self.is_apart(listed):
+            for number, area in enumerate(listed.areas()):
+                packet = run.packet(number)
+                if run.name == POLYGON:
+                    self.walk.splitter.change(POLYGON, packet)
+                self.packet(words, before, ((run.name, packet, run.end_of(number)), area))
+            return
+        for key, (number, uses) in found.items():
+            place, end = places[key], run.end_of(number)
+            self.packets = first + number + 1
+            if place and self.use(place, before + end, uses):
+                self.ask(place, words, end - run.length, end)
+        self.packets = first + len(listed.lines)
+
+    def record(self, words: Sequence[int], before: int, packets: Iterator[Piece]) -> None:
         """Adds a Gp0 record, with questions before the packets whose textures may be new. `before`: events before it."""
-        written = 0
-        for (name, packet, end), area in packets:
-            self.packets += 1
-            if not area:
-                continue
-            if name in DRAWN and packet[0] >> 24 & TEXTURED:
-                place = self.place_of(name, packet)
-                if place and self.use(place, before + end):
-                    # Before the packet; after it if it began in an earlier record.
-                    begin = end - len(packet) if end - len(packet) >= written else end
-                    self.questions.words(words[written:begin])
-                    written = begin
-                    for box in place.boxes:
-                        self.questions.ask(box)
-            if name != STORE:
-                self.ages.write(area, self.packets)
-        self.questions.words(words[written:])
+        self.written = 0
+        for piece in packets:
+            if isinstance(piece, Listed):
+                self.run(words, before, piece)
+            else:
+                self.packet(words, before, piece)
+        self.questions.words(words[self.written:])
 
     def go(self) -> None:
         """Goes through the capture."""

@@ -85,10 +85,11 @@ static void try_texts(void) {
         { { 0, 1, 12, 0xffffffff, PSXGPU_BAD_SNAPSHOT }, "bad-snapshot at event 1 byte 12 word ffffffff" },
         { { 0, 0, 0, 0, PSXGPU_NO_MEMORY }, "memory" },
         { { 0, 0, 0, 0, PSXGPU_NO_CELL }, "no such cell" },
-        { { 0, 0, 0, 0, 21 }, "unknown code" },
+        { { 9, 0, 0, 0, PSXGPU_SINK_REFUSED }, "the sink refused bytes" },
+        { { 0, 0, 0, 0, 22 }, "unknown code" },
     };
     for (size_t k = 0; k < sizeof rows / sizeof *rows; k++) expect_line(rows[k].ended, rows[k].line);
-    for (uint32_t code = 0; code <= PSXGPU_TOO_MANY_EVENTS; code++)
+    for (uint32_t code = 0; code <= PSXGPU_SINK_REFUSED; code++)
         expect((strcmp(psxgpu_text(code), "unknown code") == 0) == (code == 1 || code == 6), "a code has no text");
     expect_text(psxgpu_text(UINT32_MAX), "unknown code");
     expect_text(psxgpu_version(), PSXGPU_VERSION);

@@ -1,6 +1,6 @@
 /* Lets each allocation of each call fail in turn, and checks the result: NO_MEMORY, the machine and the buffer
- * unchanged, nothing leaked. Linked with --wrap=malloc, --wrap=realloc and --wrap=free, so that this file receives the
- * calls of the library. Writes a line for each call that was tried. */
+ * unchanged, no output kept or passed on, nothing leaked. Linked with --wrap=malloc, --wrap=realloc and --wrap=free, so
+ * that this file receives the calls of the library. Writes a line for each call that was tried. */
 #include <stdio.h>
 #include <stdlib.h>
 #include <string.h>
@@ -83,6 +83,34 @@ static uint32_t try_play(psxgpu *gpu) {
     return code;
 }
 
+static uint32_t try_play_size(psxgpu *gpu) {
+    (void)gpu;
+    return psxgpu_play_size(PSXGPU_MODE_SHOT, 0, snapshot, snapshot_length, &ended);
+}
+
+static uint32_t try_play_output(psxgpu *gpu) {
+    (void)gpu;
+    psxgpu_output output = PSXGPU_OUTPUT_NONE;
+    uint32_t code = psxgpu_play_output(PSXGPU_MODE_VRAM, 0, snapshot, snapshot_length, &output, &ended);
+    written = psxgpu_output_copy(&output, 0, out, ROOM);
+    int is_right = code == 0 ? written == ended.written : output.at == NULL && output.open == 0 && ended.written == 0;
+    psxgpu_output_free(&output);
+    return is_right ? code : PSXGPU_OPEN;
+}
+
+static int take(void *user, const uint8_t *bytes, size_t count) {
+    (void)user;
+    memcpy(out + written, bytes, count);
+    written += count;
+    return 0;
+}
+
+static uint32_t try_play_to(psxgpu *gpu) {
+    (void)gpu;
+    uint32_t code = psxgpu_play_to(PSXGPU_MODE_VRAM, 0, snapshot, snapshot_length, take, NULL, &ended);
+    return written == (code == 0 ? PSXGPU_VRAM_ROOM / 2 : 0) && written == ended.written ? code : PSXGPU_SINK_REFUSED;
+}
+
 static const struct trial {
     const char *name;
     uint32_t (*call)(psxgpu *);
@@ -90,7 +118,8 @@ static const struct trial {
                { "gp0_words", try_words }, { "gp0_notes", try_notes },     { "ram", try_ram },
                { "dma", try_dma },       { "vram", try_vram },           { "picture", try_picture },
                { "picture_rgba", try_rgba }, { "save", try_save },       { "load", try_load },
-               { "play", try_play } };
+               { "play", try_play },     { "play_size", try_play_size }, { "play_output", try_play_output },
+               { "play_to", try_play_to } };
 
 /* ---- what is checked */
 

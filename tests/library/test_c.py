@@ -3,7 +3,7 @@
 example.c as C and as C++, with the static and with the shared library; events.c, which plays captures call by call,
 with sanitizers on its side, against the program; failing.c, in which each allocation fails in turn; counts.c, which
 saves machines near the most events that a snapshot counts; calls.c, which makes calls at the edge of what the header
-allows.
+allows; outputs.c, which compares the calls that play a whole capture.
 
 For a library of another system, the environment names its folder below the top (LIBRARY, as out/aarch64), its compilers
 (CC, CXX), and the emulator that runs what they make (RUN). There are no sanitizers then, and nothing is installed."""
@@ -47,8 +47,8 @@ class Library(unittest.TestCase):
         subprocess.run([*words, os.path.join(HERE, source), *links, '-o', path], check=True)
         return path
 
-    def run_in_folder(self, path):
-        done = subprocess.run([*RUN, path], cwd=self.folder, capture_output=True, text=True)
+    def run_in_folder(self, path, *words):
+        done = subprocess.run([*RUN, path, *words], cwd=self.folder, capture_output=True, text=True)
         self.assertEqual((done.returncode, done.stderr), (0, ''), done.stdout)
         return done.stdout
 
@@ -77,6 +77,11 @@ class Library(unittest.TestCase):
         for words in ([*C, *SANITIZED], CPP):
             path = self.build('calls', words, 'calls.c', [ARCHIVE])
             self.assertEqual(self.run_in_folder(path), '')
+
+    def test_outputs(self):
+        """In every mode a size, a handle and a sink have the output of psxgpu_play; a sink may refuse."""
+        path = self.build('outputs', [*C, *SANITIZED], 'outputs.c', [ARCHIVE])
+        self.assertEqual(self.run_in_folder(path, *program.EXAMPLES), '')
 
     def test_no_global_state(self):
         """No part of the library has a byte that can be written."""

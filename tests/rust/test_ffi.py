@@ -7,7 +7,9 @@ import unittest
 from tests.support import TOP
 
 TYPES = {'uint8_t': 'u8', 'uint16_t': 'u16', 'uint32_t': 'u32', 'uint64_t': 'u64', 'int32_t': 'i32', 'size_t': 'usize',
-         'char': 'c_char', 'void': 'c_void', 'psxgpu': 'Handle', 'psxgpu_ended': 'Ended', 'psxgpu_note': 'RawNote'}
+         'char': 'c_char', 'void': 'c_void', 'psxgpu': 'Handle', 'psxgpu_output': 'OutputHandle', 'psxgpu_ended': 'Ended',
+         'psxgpu_note': 'RawNote'}
+LEFT_OUT = 'psxgpu_play_to'     # it calls back, and a panic cannot pass through C
 NUMBERS = ('LINE_ROOM', 'VRAM_ROOM', 'SAVE_ROOM', 'REGISTER_WORDS')
 
 
@@ -24,7 +26,7 @@ def in_rust(declared):
 
 def functions_of_c(text):
     """The types of each function: its parameters, then what it returns."""
-    found = re.findall(r'^((?:const )?\w+ \*?)(psxgpu_\w+)\(([^)]*)\);', text, re.M)
+    found = re.findall(r'^((?!typedef)(?:const )?\w+ \*?)(psxgpu_\w+)\(([^)]*)\);', text.replace('psxgpu_sink *', 'void *'), re.M)
     return {name: [*(in_rust(it) for it in given.split(',') if it != 'void'),
                    *([] if returned == 'void ' else [in_rust(returned)])] for returned, name, given in found}
 
@@ -57,14 +59,15 @@ class Declarations(unittest.TestCase):
         self.crate = text_of('rust', 'psxgpu', 'src', 'machine', 'ffi.rs')
 
     def test_functions(self):
-        found = functions_of_rust(self.crate)
-        self.assertEqual(found, functions_of_c(self.header))
-        self.assertEqual(len(found), len(re.findall(r'\bpsxgpu_\w+\(', self.header)))
+        found, wanted = functions_of_rust(self.crate), functions_of_c(self.header)
+        self.assertEqual(len(wanted), len(re.findall(r'(?m)^(?!typedef).*\bpsxgpu_\w+\(', self.header)))
+        del wanted[LEFT_OUT]
+        self.assertEqual(found, wanted)
 
     def test_structures(self):
         found = fields_of_rust(self.crate)
         self.assertEqual(found, fields_of_c(self.header))
-        self.assertEqual(list(found), ['Handle', 'Ended', 'RawNote'])
+        self.assertEqual(list(found), ['Handle', 'OutputHandle', 'Ended', 'RawNote'])
 
     def test_numbers(self):
         for name in NUMBERS:

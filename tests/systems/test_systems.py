@@ -69,12 +69,13 @@ class Retarget(support.InFolder):
         """Calls return a code or nothing; those in C may return more."""
         header = ('typedef uint32_t psxgpu_kind(void);\nuint32_t psxgpu_new(psxgpu *gpu);\n'
                   'void psxgpu_free(psxgpu *gpu);\nconst char *psxgpu_text(uint32_t code);\n'
-                  'size_t psxgpu_line(char *out);\n * psxgpu_in_a_comment()\n')
+                  'size_t psxgpu_line(char *out);\nsize_t psxgpu_output_copy(void);\n * psxgpu_in_a_comment()\n')
         os.mkdir(self.path('c'))
         with mock.patch.object(toolchain, 'ROOT', self.folder):
             self.write(os.path.join('c', 'psxgpu.h'), header)
-            self.assertEqual(toolchain.calls(), ['psxgpu_free', 'psxgpu_new'])
-            self.assertEqual(toolchain.exports(), ['psxgpu_free', 'psxgpu_line', 'psxgpu_new', 'psxgpu_text'])
+            self.assertEqual(toolchain.calls(), ['psxgpu_free', 'psxgpu_new', 'psxgpu_output_copy'])
+            self.assertEqual(toolchain.exports(), ['psxgpu_free', 'psxgpu_line', 'psxgpu_new', 'psxgpu_output_copy',
+                                                   'psxgpu_text'])
             self.assertEqual(toolchain.library_parts(), [])
             path = self.write(os.path.join('c', 'text.c'), '')
             self.assertEqual(toolchain.library_parts(), [path])

@@ -101,12 +101,12 @@ class Module(support.InFolder):
     def test_play(self):
         """`psxgpu.machine.play` gives the library the capture."""
         library, capture = mock.Mock(), capture_of(HAND_MADE)
-        library.play.return_value = 0
+        library.output_copy.return_value = 0
         paths = [self.write('a.psxgpu', HAND_MADE), pathlib.Path(self.write('b.psxgpu.gz', gzip.compress(HAND_MADE))),
                  self.write('a.capture.xz', lzma.compress(capture))]
         with mock.patch('psxgpu.machine.playing.library', lambda: library):
             for path in paths:
                 psxgpu.machine.play(path, 'vram')
-                self.assertEqual(library.play.call_args.args[2:4], (capture, len(capture)))
+                self.assertEqual(library.play_output.call_args.args[2:4], (capture, len(capture)))
             with self.assertRaisesRegex(ValueError, 'byte 51: the dump ends inside a packet'):
                 psxgpu.machine.play(self.write('cut', HAND_MADE[:51]))

@@ -5,7 +5,9 @@ import re
 import unittest
 from unittest import mock
 
+from psxgpu.capture import Capture
 from psxgpu.errors import ToolError
+from psxgpu.fuzz.asking import Asking
 from psxgpu.fuzz.causes import causes
 from psxgpu.fuzz.conditions import facts_of
 from psxgpu.fuzz.deciding import of_class, of_random
@@ -13,14 +15,17 @@ from psxgpu.fuzz.hunt import Hunt, ground_of
 from psxgpu.fuzz.kinds import Kind, Store
 from psxgpu.fuzz.making import Maker, packed
 from psxgpu.fuzz.nearby import Nearby, Seen, most_telling
+from psxgpu.fuzz.reading import Reading
 from psxgpu.fuzz.reading import facts_of as sequence_facts
 from psxgpu.fuzz.reducing import reduce_kind
 from psxgpu.fuzz.rules import Samples
+from psxgpu.output import Content
 from psxgpu.packets import deciders
 from psxgpu.packets.generated import CLASSES
 from psxgpu.players.bench import LOST, Bench, DumpBench
 from psxgpu.players.looks import BIT_15, COLOURS, EDGES, NOTHING, OTHERS, STEP
 from psxgpu.players.named import Done, Player, player_of
+from psxgpu.reduce.features import name_of
 from psxgpu.stream import GP0, GP1, READ, STAT
 from tests import support
 from tests.tools import wrong_players as wrong
@@ -187,6 +192,22 @@ class Hunting(support.InFolder):
             store = self.hunted('sum_for_difference', packed([(0xE1000040,), quad]))
         self.assertEqual((store.kinds, store.counts()[0]['counts']['not shown alone']), ({}, 1))
 
+    def test_break_down_in_a_sequence(self):
+        """A player that ends with a signal at GP1(10h) 4 is a kind, with the capture that shows it."""
+        class Ending(Same):
+            def run(self, mode, data, seconds=None):
+                is_there = (0x10000004).to_bytes(4, 'little') in data
+                return Done(-11, b'', b'') if is_there else super().run(mode, data, seconds)
+        store = Store(self.path('ending'), 'psxgpu fuzz')
+        reading = Reading(Hunt(Bench(player_of(support.PLAYER), Ending(), ground_of(1)), store, 1))
+        good, bad = [(READ, 1, ())], [(GP1, 1, (0x10000004,)), (READ, 1, ())]
+        reading.judge([good, bad, good, bad])
+        (key, found), = store.kinds.items()
+        self.assertEqual((found.rule, reading.hunt.seen[key]), ({'GP1(10h) 2 to 5'}, 2))
+        self.assertEqual({found.look}, LOST.looks)
+        self.assertIn('SIGSEGV', found.lines[0])
+        self.assertIn((0x10000004).to_bytes(4, 'little'), self.read('ending/kinds/%s.capture' % key))
+
     def test_needs(self):
         """Y flip is lost if the rectangle is wider than 16: it needs this, and neither dither nor a place."""
         sprite = packed([(0xE1002208,), (0x64808080, 0x00100020, 0, 0x00040020)])
@@ -210,6 +231,65 @@ class Hunting(support.InFolder):
         (found,) = store.kinds.values()
         self.assertEqual((found.name, found.label), ('polygon', 'quad'))
         self.assertLessEqual(found.words, 8)
+
+
+@support.needs_player
+class Asked(support.InFolder):
+    """Kinds of one cause, by what the players do."""
+    SPRITE = 0x64808080, 0x00100020, 0x40000000, 0x00040020       # 32 cells wide; its palette is in row 256
+
+    def asking(self, fault, **experiments):
+        """Returns what is asked of kinds whose packets and facts are given."""
+        store = Store(self.path('kinds'), 'psxgpu fuzz')
+        for key, (packets, needs) in experiments.items():
+            words = [word for packet in packets for word in packet]
+            name = name_of(packets[-1])
+            capture = Content(store.path('kinds/%s.capture' % key), Capture(1).gp0(words).bytes())
+            store.put(key, Kind(name, name, COLOURS, sorted(needs), []), [capture])
+        return Asking(Bench(player_of(support.PLAYER), fault, ground_of(1)), store)
+
+    def test_a_case(self):
+        """The Y flip of wide rectangles is lost. A second kind has another reason in its text, and the same cause."""
+        flipped = [(0xE1002008,), (0xE407FFFF,), self.SPRITE]
+        asking = self.asking(wrong.FAULTS['wide_unflipped'], a=(flipped, ['texture', 'y-flip', 'width above 16']),
+                             b=(flipped, ['texture', 'height above 1']))
+        asking.ask()
+        self.assertEqual((asking.store.kinds['a'].same, asking.store.kinds['b'].same), ([], ['a']))
+        again = Store(self.path('kinds'), 'psxgpu fuzz').kinds
+        self.assertEqual([cause.keys for cause in causes(again, Samples())], [['b', 'a']])
+
+    LINE = [(0xE1000200,), (0xE407FFFF,), (0x40123456, 0, 0x00000008)]
+    TRIANGLE = [(0xE1000200,), (0xE407FFFF,), (0x30123456, 0, 0x00123456, 0x00000010, 0x00123456, 0x00100000)]
+    QUAD = [(0xE1000200,), (0xE407FFFF,), (0x2C808080, 0, 0x40000000, 0x10, 0x01080010, 0x100000, 0x1000, 0x100010,
+                                           0x1010)]
+
+    def test_one_setting_in_two_packets(self):
+        """Without any dither, shaded triangles and lines are one kind: shades are what dither needs in a triangle."""
+        undithered = wrong.Wrong(lambda name, words, registers: (
+            [words[0] & ~0x200] if words[0] >> 24 == 0xE1 else words))
+        asking = self.asking(undithered, a=(self.LINE, ['dither']), b=(self.TRIANGLE, ['dither', 'shades']))
+        asking.ask()
+        self.assertEqual([kind.same for kind in asking.store.kinds.values()], [[], ['a']])
+
+    def test_one_setting_and_two_faults(self):
+        """Lines without dither, and textured quads without dither, are two kinds: textured triangles have dither."""
+        def lines(name, words, registers):
+            return wrong.under(0xE1, registers[0xE1] & ~0x200, words, registers) if name == 'line' else words
+        both = wrong.Several(wrong.FAULTS['quads_undithered'], wrong.Wrong(lines))
+        asking = self.asking(both, a=(self.LINE, ['dither']), b=(self.QUAD, ['dither', 'factor', 'quad', 'texture']))
+        asking.ask()
+        self.assertTrue(asking.near['b'])
+        self.assertEqual([kind.same for kind in asking.store.kinds.values()], [[], []])
+
+    def test_two_faults_in_one_packet(self):
+        """A second fault, of palettes, in a capture that has all that the first one needs, is no case of it."""
+        both = wrong.Several(wrong.FAULTS['wide_unflipped'], wrong.FAULTS['palette_row'])
+        packets = [(0xE1002008,), (0xE407FFFF,), self.SPRITE]
+        asking = self.asking(both, a=(packets, ['texture', 'y-flip', 'width above 16']),
+                             b=(packets, ['texture', 'depth', 'a palette from row 256']))
+        asking.ask()
+        self.assertTrue(asking.near['b'])
+        self.assertEqual([kind.same for kind in asking.store.kinds.values()], [[], []])
 
 
 @support.needs_player

@@ -9,11 +9,11 @@ PACKAGE = os.path.join(support.TOP, 'psxgpu')
 DOOR = os.path.join(PACKAGE, 'output')
 # What reads, or has to do with names, processes and environment. Everything else of these modules is refused.
 ALLOWED = {
-    'os': {'R_OK', 'SEEK_CUR', 'SEEK_END', 'X_OK', 'PathLike', 'access', 'devnull', 'environ', 'fsdecode', 'fsencode',
-           'fspath', 'fstat', 'killpg', 'listdir', 'lseek', 'path', 'pathsep', 'read', 'sched_getaffinity', 'sep', 'stat',
-           'times', 'walk'},
+    'os': {'R_OK', 'SEEK_CUR', 'SEEK_END', 'X_OK', 'PathLike', 'access', 'cpu_count', 'devnull', 'environ', 'fsdecode',
+           'fsencode', 'fspath', 'fstat', 'killpg', 'listdir', 'lseek', 'path', 'pathsep', 'read', 'sched_getaffinity',
+           'sep', 'stat', 'times', 'walk'},
     'shutil': {'which'},
-    'io': {'BytesIO', 'StringIO', 'TextIOWrapper'},
+    'io': {'BytesIO', 'RawIOBase', 'StringIO', 'TextIOWrapper'},
     'gzip': {'BadGzipFile', 'GzipFile'},
     'lzma': {'FORMAT_XZ', 'LZMADecompressor', 'LZMAError', 'LZMAFile'},
     # Files of the tool itself, with names that nobody else has.

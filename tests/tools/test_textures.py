@@ -10,8 +10,8 @@ from typing import List
 
 from tests import support
 from psxgpu import capture as c
-from psxgpu.heat.counting import Frame, Tiles
-from psxgpu.heat.picture import counts_of, often_of, parts_of
+from psxgpu.heat.counting import Frame
+from psxgpu.heat.picture import Counts, often_of, parts_of
 from psxgpu.machine import Missing, library
 from psxgpu.packets.texels import rectangle_span
 from psxgpu.players.questions import Questions, cells_of_box
@@ -75,14 +75,24 @@ class Written(unittest.TestCase):
         frame.areas = [(1023, 0, 1024, 0)]
         self.assertEqual(parts_of((1023, 0, 1024, 0), 512), [(1023, 0, 1023, 0), (0, 0, 0, 0)])
         frame.sums[0, 0, 2, 1] = 2 | 5 << 16
-        counts = counts_of(frame, 512)
+        counts = Counts(frame, 512)
         self.assertEqual((list(counts.cells[:3]), counts.cells[1023]), ([3, 5, 0], 1))
         self.assertEqual((counts.total(), counts.covered()), (9, 3))
 
-    def test_tiles(self) -> None:
-        tiles = Tiles(512)
-        self.assertEqual([tiles.cover((0, 0, 31, 31), 1), tiles.cover((31, 31, 32, 32), 2)], [1, 3])
-        self.assertEqual(tiles.cover((32, 32, 40, 40), 1), 3)
+    def test_counts_apart(self) -> None:
+        """Boxes without a common cell are counted without the cells between them, with the same result."""
+        frame = Frame()
+        frame.areas, frame.sums[0, 0, 2, 1] = [(8, 2, 9, 3)], 2 | 5 << 16
+        counts = Counts(frame, 512)
+        self.assertEqual(counts.often, {2: 1, 5: 1, 1: 4, 0: 34})
+        self.assertEqual(often_of(counts.cells), counts.often)
+
+    def test_full_channel(self) -> None:
+        """A channel that may be full is not added."""
+        frame = Frame()
+        self.assertTrue(frame.add((0, 0, 2, 1), bytes([30, 0, 0xC0, 3])))
+        self.assertFalse(frame.add((0, 0, 2, 1), bytes([31, 0, 0, 0])))
+        self.assertEqual(frame.sums, {(0, 0, 2, 1): 30 | 30 << 16})
 
 
 class Boxes(unittest.TestCase):

@@ -72,6 +72,19 @@ class Wrong(Player):
         return self.own.run(mode, self.rewritten(data), seconds)
 
 
+class Several(Wrong):
+    """psxgpu_tool with the faults of several wrong players."""
+
+    def __init__(self, *players):
+        super().__init__(text=', '.join(player.text for player in players))
+        self.players = players
+
+    def rewritten(self, data):
+        for player in self.players:
+            data = player.rewritten(data)
+        return data
+
+
 class Breaking(Wrong):
     """Ends with a signal at a packet for which `packet` returns None."""
 

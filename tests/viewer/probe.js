@@ -10,7 +10,10 @@ const probe = (() => {
 
     async function played() {
         const { app } = viewer;
-        while (!app.pass.isDone() || app.pass.isRunning || app.goal >= 0) await later();
+        while (!app.pass.isDone() || app.pass.isRunning || app.goal >= 0) {
+            if (app.said?.text.startsWith('A fault of this page')) throw new Error(app.said.text);
+            await later();
+        }
     }
 
     // Waits until what the page has inside is open and played, and what it is compared with; or until the page says why not.

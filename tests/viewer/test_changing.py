@@ -289,6 +289,26 @@ class Saving(Changing):
         self.assertIn('1,600 cells, in 80 30 119 69', self.page.text('#compare'))
         self.page.evaluate('probe.viewer.compare.forget()')
 
+    def test_another_file_is_not_opened_before_the_changes_are_saved(self):
+        """Unless the reader says so. After the changes are undone or saved it is opened at once."""
+        path = os.path.join(EXAMPLES, 'two-fills.capture')
+        name = 'probe.app.recording.name'
+        for before in ('undo', None):
+            self.load(squares(), 'squares.capture')
+            self.page.evaluate('probe.app.whatIf.toggle(%d)' % self.page.ask('packetRows')[4])
+            self.page.choose('#open', path)
+            self.page.until('!document.getElementById("said").hidden')
+            self.assertIn('Not opened: changes of 1 packet in squares.capture are not saved.', self.page.text('#said'))
+            self.assertEqual((self.page.evaluate(name), self.page.evaluate('probe.app.whatIf.count')),
+                             ('squares.capture', 1))
+            if before:
+                self.page.evaluate('probe.app.whatIf.%s()' % before)
+                self.page.choose('#open', path)
+            else:
+                self.page.click('#said button')
+            self.page.until(name + ' === "two-fills.capture"')
+            self.page.ask('played')
+
     def test_nothing_is_changed(self):
         self.load(example('two-fills'), 'two-fills.capture')
         self.page.evaluate('probe.viewer.out.does("changed")')

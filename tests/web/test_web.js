@@ -15,6 +15,25 @@ async function plays(command, text, on = library) {
         return [2, await sumOf(bad.output), bad.message];
     }
 }
+// The same by playTo and playSize, and whether both have the number of the bytes that were passed.
+async function passes(command, text) {
+    const [mode, x, y] = command.startsWith('pixel') ? command.split(' ') : [command];
+    const capture = bytesOf(text), cell = [Number(x || 0), Number(y || 0)], pieces = [];
+    const ended = call => {
+        try { return [0, call(), '']; } catch (bad) { return [2, bad.written, bad.message]; }
+    };
+    const [status, count, message] = ended(() => library.playTo(mode, capture, piece => pieces.push(piece), cell));
+    const [, size] = ended(() => library.playSize(mode, capture, cell));
+    const whole = new Uint8Array(await new Blob(pieces).arrayBuffer());
+    return [status, await sumOf(whole), message, whole.length === count && size === count];
+}
+// What a sink throws at its second piece, the number of its calls, and whether the library plays on.
+function sinkThrows(text) {
+    let calls = 0, message = '';
+    const sink = () => { if (++calls === 2) throw new Error('full'); };
+    try { library.playTo('vram', bytesOf(text), sink); } catch (bad) { message = bad.message; }
+    return [message, calls, library.play('vram', bytesOf(text)).length];
+}
 // What the calls of a machine give: the words read, video memory and the shown picture at the end, what is refused.
 async function callsSee(text) {
     const lines = [], seen = {};

@@ -76,6 +76,8 @@ class Page:
                         status, out, error = program.play(command, part)
                         found = self.browser.evaluate("plays('%s', '%s')" % (command, text))
                         self.assertEqual(found, [status, hashlib.sha256(out).hexdigest(), error])
+                        passed = self.browser.evaluate("passes('%s', '%s')" % (command, text))
+                        self.assertEqual(passed, [*found, True])
 
     @program.needs_player
     def test_events(self):
@@ -101,6 +103,11 @@ class Page:
         told = [[1, 0, 7, 0xE1000000, None], [4, 3, 0, 0x020000FF, [0, 0, 15, 0]], [7, 6, 5, 0xA0000000, [0, 0, 1, 0]]]
         self.assertEqual(self.browser.evaluate('notesAndPicture()'),
                          [told, [0, 0, 0, 255, 255, 0, 0, 255, 255, 0, 0, 255], True, [0, 0, 0]])
+
+    def test_sink_that_throws(self):
+        data = program.bytes_at(os.path.join(EXAMPLES, 'flips.capture'))
+        found = self.browser.evaluate("sinkThrows('%s')" % base64.b64encode(data).decode())
+        self.assertEqual(found, ['full', 2, 1048576])
 
     def test_step_back(self):
         self.assertEqual(self.browser.evaluate('stepBack()'), [0, 31])

@@ -8,6 +8,7 @@
 import { adviceOf } from './reading/advice.js';
 import { Ahead } from './playing/ahead.js';
 import { breath } from './playing/yield_to_page.js';
+import { counted } from './panels/dom.js';
 import { Machine } from './playing/machine.js';
 import { Pass } from './playing/pass.js';
 import { Player } from './playing/player.js';
@@ -65,6 +66,19 @@ export class App extends EventTarget {
     warn(text, choice = null, advice = '') {
         this.said = { text, choice, advice, isWarning: true };
         this.tell('said');
+    }
+
+    /**
+     * Returns whether what is open may be left. Where changes would be lost, it says so, and offers to open all the same.
+     * @param {string} name what is to be opened
+     * @param {() => void} open opens it, without asking again
+     */
+    mayLeave(name, open) {
+        const { whatIf, recording } = this;
+        if (!whatIf?.isUnsaved) return true;
+        this.warn(`Not opened: changes of ${counted(whatIf.count, 'packets')} in ${recording.name} are not saved.`,
+            { text: `Open ${name} without saving them`, does: open });
+        return false;
     }
 
     // Opens a file. A bad one leaves all as it was, and says why.

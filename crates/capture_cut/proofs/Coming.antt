@@ -17,7 +17,7 @@ use Rattle.event_loop.specs.Pausing.{Pauses, most_after}
 use Rattle.capture_cut.specs.Came.{Came, GoesOn, Reached, unheld}
 use Rattle.capture_cut.specs.Cut.{CutAt, events_of}
 use Rattle.capture_cut.specs.File.{begun, cut_file}
-use Rattle.capture_cut.specs.declared.file.Draft.{Draft}
+use Rattle.gpu_capture.specs.declared.draft.Draft.{Draft}
 
 -- `due` is the record of event `number`, one of the later events, and follows the output `was`. `flushed`: the bytes
 -- read at the last flush. The bytes that this event needs start with them.
@@ -86,8 +86,8 @@ pub record Comes (at : CutAt) (before now : Streams) (rig : RigState) (p : Progr
     (since count : ℕ) : Type 0 where
   pub on : GoesOn at before (unheld now) rig p
   pub count_is : count ≡ length (events_of on.way)
-  pub size_is : draft.size ≡ length (begun on.way.replay on.way.later)
-  pub fits : draft.size + 4 ≤ limit
+  pub size_is : draft.file.size ≡ length (begun on.way.replay on.way.later)
+  pub fits : draft.file.size + 4 ≤ limit
   pub flushed : List ℕ
   pub after : List ℕ
   pub taken_is : on.way.taken ≡ flushed ++ after
@@ -98,7 +98,7 @@ pub record Comes (at : CutAt) (before now : Streams) (rig : RigState) (p : Progr
 
 -- at the start: nothing is buffered, and all output was written
 pub comes_first : (at : CutAt) (before now : Streams) (rig : RigState) (r : Reached) (draft : Draft)
-    (since number : ℕ) → draft.size ≡ r.size → draft.buffered ≡ [] → since ≡ r.progress.offset → number ≡ r.count
+    (since number : ℕ) → draft.file.size ≡ r.size → draft.buffered ≡ [] → since ≡ r.progress.offset → number ≡ r.count
     → Came at before now rig r → Comes at before now rig r.progress draft since number
 comes_first at before now rig r draft since number size_same none offset counted came =
     let way = came.on.way in
@@ -121,7 +121,7 @@ comes_first at before now rig r draft since number size_same none offset counted
 
 -- the draft with these pieces as its buffer
 abbrev with_pieces : Draft → List Piece → Draft
-with_pieces draft pieces = record { size = draft.size; buffered = pieces }
+with_pieces draft pieces = record { file = draft.file; buffered = pieces }
 
 -- the buffer is flushed
 comes_written : (cut : CutAt) (before now : Streams) (rig : RigState) (p : Progress) (draft : Draft)

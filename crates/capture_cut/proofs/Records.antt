@@ -28,7 +28,7 @@ use Rattle.capture_cut.specs.File.{snapshot, begun, cut_file}
 use Rattle.capture_cut.specs.declared.ending.CutEnding.{CutEnding}
 use Rattle.capture_cut.specs.declared.ending.CutEnding.TheVariants.{Done, PastEnd, Stopped, Faulted, TooLong}
 use Rattle.capture_cut.specs.declared.ending.CutEnding.TheVariants.{WriteFailed}
-use Rattle.capture_cut.specs.declared.file.Draft.{Draft}
+use Rattle.gpu_capture.specs.declared.draft.Draft.{Draft}
 use Rattle.capture_cut.proofs.Coming.{Comes, WasDue, due_here, due_more}
 use Rattle.capture_cut.proofs.Cutting.{spent_within}
 use Rattle.capture_cut.proofs.Reading.{read_on, reads_to, stops_after, stops_bytes, version_on}
@@ -197,7 +197,7 @@ module _ (cut : CutAt) (before now : Streams) (rig : RigState) (old : Progress) 
           → PutsRecord number event (writing draft now.held) (writing is held) → Allows 2 event
           → Comes cut before after rig new is since number
       came_on number is number_is puts allows =
-          let size = longer far.replay far.later event draft.size at.size_is in
+          let size = longer far.replay far.later event draft.file.size at.size_is in
           let adds = puts.size_is in
           let room = puts.fits in
           let fits : length (cut_file far.replay later) ≤ limit = omega (arith, size, adds, room) in
@@ -235,8 +235,8 @@ module _ (cut : CutAt) (before now : Streams) (rig : RigState) (old : Progress) 
       last number is = record { all = at.on.all; number_is = is ∙ count_on; are = refl; reads = reads }
 
       long_ends : (number : ℕ) (ending : CutEnding) → number ≡ count + 1
-          → limit < draft.size + length (spelled event) + 4 → EndsTooLong number draft.buffered now.held held ending
-          → EndsCut cut before after rig ending
+          → limit < draft.file.size + length (spelled event) + 4
+          → EndsTooLong number draft.buffered now.held held ending → EndsCut cut before after rig ending
       long_ends number (TooLong told) is long end =
           ends taken later (TooLong told) has_read.bytes (record {
             earlier = far.later;
@@ -245,7 +245,7 @@ module _ (cut : CutAt) (before now : Streams) (rig : RigState) (old : Progress) 
             held = buffers_written (due far.taken far.later) before.held all now.held held draft.buffered
                 at.buffers end.1;
             fits = let a = file_length far.replay far.later in omega (arith, a, at.size_is, at.fits);
-            long = rw (longer far.replay far.later event draft.size at.size_is) long;
+            long = rw (longer far.replay far.later event draft.file.size at.size_is) long;
           })
       long_ends number (WriteFailed told) is long end =
           lacks taken later told has_read.bytes reads.says (few takes.taken takes.needed)
@@ -261,7 +261,7 @@ module _ (cut : CutAt) (before now : Streams) (rig : RigState) (old : Progress) 
           → EndsRecord number event (writing draft now.held) held ending → EndsCut cut before after rig ending
       record_ends number ending is (inl long) = long_ends number ending is long.0 long.1
       record_ends number ending is (inr breaks) =
-          let size = longer far.replay far.later event draft.size at.size_is in
+          let size = longer far.replay far.later event draft.file.size at.size_is in
           let room = breaks.0 in
           let fits : length (cut_file far.replay later) ≤ limit = omega (arith, size, room) in
           rw breaks.2 (lacks taken later breaks.1 has_read.bytes reads.says (few takes.taken takes.needed)

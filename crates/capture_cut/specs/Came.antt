@@ -24,7 +24,7 @@ use Rattle.capture_cut.specs.File.{begun, rig_of, IsWritable}
 use Rattle.capture_cut.specs.declared.ending.CutEnding.{CutEnding}
 use Rattle.capture_cut.specs.declared.ending.CutEnding.TheVariants.{Done, PastEnd, Stopped, Faulted, TooLong}
 use Rattle.capture_cut.specs.declared.ending.CutEnding.TheVariants.{WriteFailed}
-use Rattle.capture_cut.specs.declared.file.Draft.{Draft}
+use Rattle.gpu_capture.specs.declared.draft.Draft.{Draft}
 
 -- ---- one event that is played
 
@@ -137,8 +137,8 @@ writing draft held = record { draft = draft; held = held }
 pub record PutsRecord (number : ℕ) (event : Event) (before now : Writing) : Type 0 where
   pub put : IsPut (piece number (spelled event)) (holding before.held before.draft.buffered)
       (holding now.held now.draft.buffered)
-  pub size_is : now.draft.size ≡ before.draft.size + length (spelled event)
-  pub fits : now.draft.size + 4 ≤ limit
+  pub size_is : now.draft.file.size ≡ before.draft.file.size + length (spelled event)
+  pub fits : now.draft.file.size + 4 ≤ limit
 
 -- The next record would make the file too long: the buffer was flushed, or the flush failed.
 abbrev pub EndsTooLong : (number : ℕ) → List Piece → (before now : Option (List ℕ)) → CutEnding → Type 0
@@ -149,9 +149,9 @@ EndsTooLong number buffered before now ending = ⊥
 -- The record would make the file too long and was not added; or it fits, and a write failed.
 abbrev pub EndsRecord : (number : ℕ) → Event → Writing → (now : Option (List ℕ)) → CutEnding → Type 0
 EndsRecord number event before now ending =
-    ((limit < before.draft.size + length (spelled event) + 4)
+    ((limit < before.draft.file.size + length (spelled event) + 4)
     × EndsTooLong number before.draft.buffered before.held now ending)
-    ⊎ ((before.draft.size + length (spelled event) + 4 ≤ limit) × (lacking : ℕ) × (ending ≡ WriteFailed lacking)
+    ⊎ ((before.draft.file.size + length (spelled event) + 4 ≤ limit) × (lacking : ℕ) × (ending ≡ WriteFailed lacking)
     × BreaksPut (piece number (spelled event)) (holding before.held before.draft.buffered) now lacking)
 
 -- How a stop of the reader ends the cut if the buffer is empty. `number`: the number of the next event.

@@ -19,6 +19,8 @@ use Rattle.event_play.specs.Step.{event_step}
 use Rattle.event_play.specs.Streams.{Streams}
 use Rattle.event_play.specs.Told.{told_notes}
 use Rattle.event_play.specs.declared.fault.EventFault.{EventFault}
+use Rattle.event_loop.specs.Ending as loop
+use Rattle.capture_cut.specs.Ended.{cut_ended}
 use Rattle.capture_cut.specs.File.{snapshot, begun, cut_file, rig_of, IsWritable}
 use Rattle.capture_cut.specs.declared.ending.CutEnding.{CutEnding}
 use Rattle.capture_cut.specs.declared.ending.CutEnding.TheVariants.{Done, PastEnd, Stopped, Faulted, TooLong}
@@ -180,20 +182,14 @@ pub record EndsCut (at : CutAt) (before now : Streams) (rig : RigState) (ending 
 
 -- ---- causes
 
--- the cut ended with a fault of the source
 abbrev pub MayReadFault : CutEnding → Type 0
-MayReadFault (Stopped number (ReadFault byte)) = Unit {0}
-MayReadFault ending = ⊥
+MayReadFault ending = loop.MayReadFault (cut_ended ending)
 
--- the cut ended with a fault of the sink
 abbrev pub MayWriteFault : CutEnding → Type 0
-MayWriteFault (WriteFailed number) = Unit {0}
-MayWriteFault ending = ⊥
+MayWriteFault ending = loop.MayWriteFault (cut_ended ending)
 
--- `Stopped` never has the stop End
 abbrev pub IsEnding : CutEnding → Type 0
-IsEnding (Stopped number End) = ⊥
-IsEnding ending = Unit {0}
+IsEnding ending = loop.IsEnding (cut_ended ending)
 
 -- An ending of code that only writes. `before`, `now`: how often the sink has failed. It is no fault of the source, and
 -- a fault of the sink only if the sink failed.

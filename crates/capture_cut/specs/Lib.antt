@@ -1,3 +1,4 @@
 pub mod Came
 pub mod Cut
+pub mod Ended
 pub mod File

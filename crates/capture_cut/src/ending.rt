@@ -1,4 +1,5 @@
 // How cutting a capture ends.
+use event_loop::{AsEnded, Ended};
 use event_play::EventFault;
 use gpu_capture::Stop;
 
@@ -18,4 +19,40 @@ pub enum CutEnding {
     /// The output of this event was not written completely. If the End record is incomplete, `event` is the number of
     /// the next event.
     WriteFailed { event: u64 },
+}
+
+/// Why a cut is refused. Events are numbered from 1.
+#[derive(Clone, Copy, Debug, PartialEq, Eq)]
+pub enum CutRefusal {
+    /// The End record came before event `n`. `event`: the number of the next event.
+    PastEnd { event: u64 },
+    /// This event is one of the first `n`. It has a fault and was not played.
+    Fault { event: u64, fault: EventFault },
+    /// With the record of this event and an End record, the file would have more than 2^30 bytes.
+    TooLong { event: u64 },
+}
+
+impl AsEnded for CutEnding {
+    ghost use Rattle.capture_cut.specs.Ended.{cut_ended};
+
+    type Refusal = CutRefusal;
+
+    ghost as_ended = { cut_ended };
+
+    fn ended(self) -> Ended<CutRefusal> {
+        match self {
+            CutEnding::Done => Ended::Done,
+            CutEnding::Stopped { event, stop } => Ended::Stopped { event, stop },
+            CutEnding::PastEnd { event } => Ended::Refused {
+                why: CutRefusal::PastEnd { event },
+            },
+            CutEnding::Faulted { event, fault } => Ended::Refused {
+                why: CutRefusal::Fault { event, fault },
+            },
+            CutEnding::TooLong { event } => Ended::Refused {
+                why: CutRefusal::TooLong { event },
+            },
+            CutEnding::WriteFailed { event } => Ended::WriteFailed { event },
+        }
+    }
 }

@@ -3,7 +3,6 @@
 
 mod bounds;
 mod ending;
-mod file;
 mod first;
 mod memory;
 mod record;
@@ -12,6 +11,6 @@ mod state;
 mod whole;
 
 pub use bounds::keep_bounds;
-pub use ending::CutEnding;
+pub use ending::{CutEnding, CutRefusal};
 pub use state::{state_size, write_state};
 pub use whole::cut;

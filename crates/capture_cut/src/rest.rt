@@ -13,12 +13,14 @@ ghost use Rattle.capture_cut.specs.Cut.{CutAt, EndsCut, EndsWriting, IsEnding, M
 ghost use Rattle.capture_cut.specs.Cut.{WritesOrEnds};
 
 use crate::ending::CutEnding;
-use crate::file::Draft;
-use crate::record::{allowed, put_bytes, record_size};
+use crate::record::allowed;
 use dev_io::{Sink, Source};
 use event_loop::{next_event, write_at_pause};
 use gathered_out::OutputBuffer;
-use gpu_capture::{Event, EventReader, LIMIT, Stop, write_end};
+use gpu_capture::{Draft, Event, EventReader, Stop, record_bytes, write_end};
+
+/// The version of the records after a state.
+const RECORDS_VERSION: u8 = 2;
 
 /// Reads the events after the first `read`, and writes their records and an End record. `size`: length of the file so
 /// far in bytes, at most 2^30 - 4. The reader must not have stopped.
@@ -42,10 +44,7 @@ pub(crate) fn write_rest<S: Source, K: Sink>(
     ensures reads { Causes (MayReadFault result) (S.faults source.old) (S.faults source.new) }
     ensures writes { Causes (MayWriteFault result) (K.faults out.old) (K.faults out.new) }
 {
-    let mut draft = Draft {
-        size,
-        buffered: OutputBuffer::new(),
-    };
+    let mut draft = Draft::new(RECORDS_VERSION, size);
     let mut since = reader.offset();
     let mut number = u64::from(read);
     'events: loop {
@@ -73,24 +72,21 @@ fn put_record<K: Sink>(
     out: &mut K,
 ) -> Result<(), CutEnding>
     requires event { IsEvent event.now }
-    requires room { draft.old.size + 4 ≤ 2 ^ 30 }
+    requires room { draft.old.file.size + 4 ≤ 2 ^ 30 }
     ensures ok { OnOk result
         (PutsRecord number event.now (writing draft.old (K.held out.old)) (writing draft.new (K.held out.new))) }
-    ensures room { OnOk result (draft.new.size + 4 ≤ 2 ^ 30) }
+    ensures room { OnOk result (draft.new.file.size + 4 ≤ 2 ^ 30) }
     ensures allowed { Allows 2 event.now }
     ensures ends { IfErr result (EndsRecord number event.now (writing draft.old (K.held out.old)) (K.held out.new)) }
     ensures known { WritesOrEnds (K.faults out.old) (K.faults out.new) result }
 {
     allowed(*event);
-    let after = draft.size + record_size(event);
-    if after + 4 > LIMIT {
+    let bytes = record_bytes(event);
+    if !draft.file.has_room(bytes.len() as u32) {
         return Err(end_too_long(number, &mut draft.buffered, out));
     }
-    match put_bytes(number, &mut draft.buffered, out, event) {
-        Ok(()) => {
-            draft.size = after;
-            Ok(())
-        }
+    match draft.put(number, bytes.as_slice(), out) {
+        Ok(()) => Ok(()),
         Err(event) => Err(CutEnding::WriteFailed { event }),
     }
 }

@@ -1,11 +1,14 @@
 -- Events that are taken, one after another.
 use Rattle.std.proofs.Common.{◌≡◌, ◌≤◌, ◌<◌, ◌+◌, ◌++◌, ℕ, List, [], ◌∷◌, Option, length, length-append, refl}
-use Rattle.std.proofs.Common.{ap, sym, ◌∙◌, append-nil, arith, inl}
+use Rattle.std.proofs.Common.{ap, sym, ◌∙◌, append-nil, arith, inl, inr, ◌==◌, false, true}
+use Rattle.std.proofs.lemmas.Bool.{cases_Bool}
 use Rattle.event_loop.proofs.Due.{bytes_on}
 use Rattle.gathered_out.specs.Pieces.{bytes_of, piece}
 use Rattle.gathered_out.specs.Puts.{BreaksPut, Holding, IsPut}
 use Rattle.gpu_taps.specs.Tally.{Reading}
-use Rattle.gpu_capture.specs.Capture.{limit}
+use Rattle.gpu_capture.specs.Capture.{head_of, limit}
+use Rattle.gpu_capture.specs.Draft.{end_at, head_at}
+use Rattle.gpu_capture.specs.Written.{spell, spelled_end}
 use Rattle.gpu_capture.specs.declared.event.Event.{Event}
 use Rattle.gpu_capture.specs.declared.event.Stop.TheVariants.{End}
 use Rattle.event_play.specs.Replay.{Replay, Played, from_state, next_number, played_events, raised}
@@ -18,12 +21,12 @@ use Rattle.event_play.proofs.Reaching.{both_small, spent_on}
 use Rattle.event_play.specs.Step.{event_box_cost, event_cost}
 use Rattle.capture_flat.specs.Flat.{flat_events}
 use Rattle.capture_flat.specs.OneEvent.{PlaysFlat, end_due}
-use Rattle.capture_flat.specs.Out.{begun, due_at, flat_file}
+use Rattle.capture_flat.specs.Out.{begun, due_at, flat_file, flat_version, head_due}
 use Rattle.capture_flat.specs.Passing.{Follows}
 use Rattle.capture_flat.specs.Taking.{FitsBefore, FlatAt, FlatBegins, FlatBreaks, FlatKnows, FlatPlays, FlatStands}
 use Rattle.capture_flat.specs.Taking.{FlatStart, first_of}
 use Rattle.capture_flat.specs.Taking.{flat_at, flat_closing, flat_due, flat_number, replay_after}
-use Rattle.capture_flat.specs.declared.file.FlatFile.{FlatFile}
+use Rattle.gpu_capture.specs.declared.draft.CaptureFile.{CaptureFile}
 use Rattle.capture_flat.proofs.Following.{all_flat, follows_none, follows_on}
 use Rattle.event_play.proofs.Reaching.{heard_on}
 use Rattle.capture_flat.proofs.Output.{begun_on, written_fits, written_length}
@@ -46,10 +49,11 @@ number_is start version events at st played number was is =
 
 -- ---- the beginning
 
-pub first_stands : (start : FlatStart) (version : ℕ) (at : FlatAt) (rig : RigState) → FlatBegins start at
-    → version ≤ 3 → ((t : Replay) → StandsFor at.rig t → StandsFor rig (raised t version))
-    → FlatStands start version [] (flat_at (record { version = version; size = 0 }) rig at.heard at.steps)
-first_stands start version at rig begins low raises =
+pub first_stands : (start : FlatStart) (version written : ℕ) (at : FlatAt) (rig : RigState) → FlatBegins start at
+    → version ≤ 3 → written ≡ flat_version version
+    → ((t : Replay) → StandsFor at.rig t → StandsFor rig (raised t version))
+    → FlatStands start version [] (flat_at (record { version = written; size = 0 }) rig at.heard at.steps)
+first_stands start version written at rig begins low same raises =
     let first = first_of start version in
     let none : IsFirst first = raised_first (from_state start.machine 0) version (from_first start.machine 0) in
     let unplayed : first.played ≡ 0 = raised_played (from_state start.machine 0) version in
@@ -66,19 +70,39 @@ first_stands start version at rig begins low raises =
         counts = λ some. absurd (omega (arith, some));
       };
       written = sym nothing;
-      version_is = refl;
+      version_is = same;
       low = low;
       size_is = ap length (sym nothing);
       fits = omega arith;
     }
 
+-- the file header is still to be written if no event was played
+pub head_is : (start : FlatStart) (version : ℕ) (events : List Event) (at : FlatAt)
+    → FlatStands start version events at → head_at at.file ≡ head_due version at.rig.played
+head_is start version events at st =
+    let head = head_of (flat_version version) in
+    let size = st.size_is in
+    rw (← st.plays.rig.played)
+    (elim (cases_Bool (st.plays.replay.played == 0)) [
+      | inl none ↦
+          let bytes : length (begun version st.plays.replay.played st.plays.flat) ≡ 0 = rw none refl in
+          let empty : (at.file.size == 0) ≡ true = grind (arith, size, bytes) in
+          rw (none, empty) (ap head_of st.version_is)
+      | inr some ↦
+          let long = length-append head (spell st.plays.flat) in
+          let bytes : length (begun version st.plays.replay.played st.plays.flat) ≡ length (head ++ spell st.plays.flat)
+          = rw some refl in
+          let full : (at.file.size == 0) ≡ false = grind (arith, size, bytes, long) in
+          rw (some, full) refl
+    ])
+
 -- the same by an equal machine
-pub same_stands : (start : FlatStart) (version : ℕ) (events : List Event) (file : FlatFile) (rig now : RigState)
+pub same_stands : (start : FlatStart) (version : ℕ) (events : List Event) (file : CaptureFile) (rig now : RigState)
     (heard : List Reading) (steps : ℕ) → now ≡ rig → FlatStands start version events (flat_at file rig heard steps)
     → FlatStands start version events (flat_at file now heard steps)
 same_stands start version events file rig now heard steps same st = rw same st
 
-pub all_stands : (start : FlatStart) (version : ℕ) (events : List Event) (file : FlatFile) (rig now : RigState)
+pub all_stands : (start : FlatStart) (version : ℕ) (events : List Event) (file : CaptureFile) (rig now : RigState)
     (heard told : List Reading) (steps spent : ℕ) → now ≡ rig → told ≡ heard → spent ≡ steps
     → FlatStands start version events (flat_at file rig heard steps)
     → FlatStands start version events (flat_at file now told spent)
@@ -215,12 +239,16 @@ module _ (start : FlatStart) (version : ℕ) (events : List Event) (at : FlatAt)
       ∙ ap (λ (t : Replay). t.played)
       (sym (after_is start version events st.plays.replay st.plays.flat st.plays.follows))
 
+  end_is : end_at at.file ≡ end_due version played
+  end_is = ap (λ bs. bs ++ spelled_end)
+      (head_is start version events at st ∙ ap (head_due version) (sym counted))
+
   pub close_put : (before now : Holding)
-      → IsPut (piece (next_number played) (end_due at.file.version played)) before now
+      → IsPut (piece (next_number played) (end_at at.file)) before now
       → ArePut (flat_closing start version events End) before now
-  close_put before now put = rw (← played_is, ← st.version_is) (now, put, λ base ps out. out)
+  close_put before now put = rw (← played_is, ← end_is) (now, put, λ base ps out. out)
 
   pub close_breaks : (before : Holding) (now : Option (List ℕ)) (lacking : ℕ)
-      → BreaksPut (piece (next_number played) (end_due at.file.version played)) before now lacking
+      → BreaksPut (piece (next_number played) (end_at at.file)) before now lacking
       → BreakPut (flat_closing start version events End) before now lacking
-  close_breaks before now lacking breaks = rw (← played_is, ← st.version_is) (inl breaks)
+  close_breaks before now lacking breaks = rw (← played_is, ← end_is) (inl breaks)

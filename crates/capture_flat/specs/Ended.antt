@@ -15,3 +15,11 @@ flat_ending ended.Done = Done
 flat_ending (ended.Stopped number stop) = Stopped number stop
 flat_ending (ended.Refused why) = refused_as why
 flat_ending (ended.WriteFailed number) = WriteFailed number
+
+-- the same the other way round
+abbrev pub flat_ended : FlatEnding → Ended FlatRefusal
+flat_ended Done = ended.Done
+flat_ended (Stopped number stop) = ended.Stopped number stop
+flat_ended (Faulted number fault) = ended.Refused (Fault number fault)
+flat_ended (TooLong number) = ended.Refused (TooMuch number)
+flat_ended (WriteFailed number) = ended.WriteFailed number

@@ -16,6 +16,8 @@ use Rattle.event_play.specs.Step.{event_step}
 use Rattle.event_play.specs.Streams.{Streams}
 use Rattle.event_play.specs.Told.{told_notes}
 use Rattle.event_play.specs.declared.fault.EventFault.{EventFault}
+use Rattle.event_loop.specs.Ending as loop
+use Rattle.capture_flat.specs.Ended.{flat_ended}
 use Rattle.capture_flat.specs.Flat.{flat_replay}
 use Rattle.event_play.specs.Alike.{IsFlatCapture}
 use Rattle.capture_flat.specs.Out.{begun, due_at, head_due, flat_version, flat_file}
@@ -148,17 +150,11 @@ pub record EndsFlat (first : Replay) (before now : Streams) (rig : RigState) (en
 
 -- ---- causes
 
--- flattening ended with a fault of the source
 abbrev pub MayReadFault : FlatEnding → Type 0
-MayReadFault (Stopped number (ReadFault byte)) = Unit {0}
-MayReadFault ending = ⊥
+MayReadFault ending = loop.MayReadFault (flat_ended ending)
 
--- flattening ended with a fault of the sink
 abbrev pub MayWriteFault : FlatEnding → Type 0
-MayWriteFault (WriteFailed number) = Unit {0}
-MayWriteFault ending = ⊥
+MayWriteFault ending = loop.MayWriteFault (flat_ended ending)
 
--- `Stopped` never has the stop End
 abbrev pub IsEnding : FlatEnding → Type 0
-IsEnding (Stopped number End) = ⊥
-IsEnding ending = Unit {0}
+IsEnding ending = loop.IsEnding (flat_ended ending)

@@ -13,9 +13,9 @@ use Rattle.event_play.specs.Splits.{alone}
 use Rattle.event_play.specs.Step.{Machine, event_step}
 use Rattle.event_play.specs.Told.{told_notes}
 use Rattle.capture_flat.specs.OneEvent.{end_due}
-use Rattle.capture_flat.specs.Out.{begun, due_at, flat_file}
+use Rattle.capture_flat.specs.Out.{begun, due_at, flat_file, flat_version}
 use Rattle.capture_flat.specs.Passing.{Follows}
-use Rattle.capture_flat.specs.declared.file.FlatFile.{FlatFile}
+use Rattle.gpu_capture.specs.declared.draft.CaptureFile.{CaptureFile}
 use Rattle.capture_flat.specs.declared.refusal.FlatRefusal.{FlatRefusal}
 use Rattle.capture_flat.specs.declared.refusal.FlatRefusal.TheVariants.{Fault, TooMuch}
 
@@ -27,12 +27,12 @@ pub record FlatStart : Type 0 where
 
 -- its state: the file, the machine, the readings of the taps, and the store steps
 pub record FlatAt : Type 0 where
-  pub file : FlatFile
+  pub file : CaptureFile
   pub rig : RigState
   pub heard : List Reading
   pub steps : ℕ
 
-abbrev pub flat_at : FlatFile → RigState → List Reading → ℕ → FlatAt
+abbrev pub flat_at : CaptureFile → RigState → List Reading → ℕ → FlatAt
 flat_at file rig heard steps = record { file = file; rig = rig; heard = heard; steps = steps }
 
 pub record FlatBegins (start : FlatStart) (at : FlatAt) : Type 0 where
@@ -75,7 +75,7 @@ pub record FlatPlays (start : FlatStart) (version : ℕ) (events : List Event) (
 pub record FlatStands (start : FlatStart) (version : ℕ) (events : List Event) (at : FlatAt) : Type 0 where
   pub plays : FlatPlays start version events at
   pub written : bytes_of (pieces (flat_due start version) events) ≡ begun version plays.replay.played plays.flat
-  pub version_is : at.file.version ≡ version
+  pub version_is : at.file.version ≡ flat_version version
   pub low : version ≤ 3
   pub size_is : at.file.size ≡ length (begun version plays.replay.played plays.flat)
   pub fits : at.file.size + 4 ≤ limit

@@ -3,7 +3,7 @@ ghost use Rattle.std.specs.Prelude.{◌≡◌};
 ghost use Rattle.capture_flat.specs.Ended.{flat_ending, refused_as};
 
 use crate::refusal::FlatRefusal;
-use event_loop::Ended;
+use event_loop::{AsEnded, Ended};
 use event_play::EventFault;
 use gpu_capture::Stop;
 
@@ -21,6 +21,28 @@ pub enum FlatEnding {
     /// This event was played, and its output was not written completely. If the output at End is incomplete, `event` is
     /// the number of the next event.
     WriteFailed { event: u64 },
+}
+
+impl AsEnded for FlatEnding {
+    ghost use Rattle.capture_flat.specs.Ended.{flat_ended};
+
+    type Refusal = FlatRefusal;
+
+    ghost as_ended = { flat_ended };
+
+    fn ended(self) -> Ended<FlatRefusal> {
+        match self {
+            FlatEnding::Done => Ended::Done,
+            FlatEnding::Stopped { event, stop } => Ended::Stopped { event, stop },
+            FlatEnding::Faulted { event, fault } => Ended::Refused {
+                why: FlatRefusal::Fault { event, fault },
+            },
+            FlatEnding::TooLong { event } => Ended::Refused {
+                why: FlatRefusal::TooMuch { event },
+            },
+            FlatEnding::WriteFailed { event } => Ended::WriteFailed { event },
+        }
+    }
 }
 
 /// Returns the ending of the loop as the ending of a flat capture.

@@ -6,7 +6,6 @@ mod allowed;
 mod block;
 mod count;
 mod ending;
-mod file;
 pub mod laws;
 mod pass;
 mod passage;
@@ -15,4 +14,5 @@ mod spell;
 mod whole;
 
 pub use ending::FlatEnding;
+pub use refusal::FlatRefusal;
 pub use whole::flat;

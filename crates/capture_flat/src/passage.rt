@@ -3,14 +3,13 @@ ghost use Rattle.std.specs.Prelude.{◌≡◌, ◌≤◌, ◌<◌, ◌+◌, ◌*
 
 use crate::allowed::{allowed, slice_allowed};
 use crate::block::put_words;
-use crate::file::FlatFile;
 use crate::pass::{Performed, due_size, put_due, put_last};
 use crate::refusal::FlatRefusal;
 use dev_io::Sink;
 use event_loop::{Halt, Passage};
 use event_play::Rig;
 use gathered_out::OutputBuffer;
-use gpu_capture::{Event, LIMIT, Stop};
+use gpu_capture::{CaptureFile, Event, Stop};
 use gpu_taps::Listener;
 use std::sync::ledger::Ledger;
 use vram_store::Steps;
@@ -21,7 +20,7 @@ pub(crate) struct Flattening<'a, T: Listener, L: Ledger> {
     pub(crate) rig: &'a mut Rig,
     pub(crate) taps: &'a mut Vec<T>,
     pub(crate) steps: &'a mut Steps<L>,
-    pub(crate) file: FlatFile,
+    pub(crate) file: CaptureFile,
 }
 
 impl<'a, T: Listener, L: Ledger> Passage for Flattening<'a, T, L> {
@@ -29,6 +28,7 @@ impl<'a, T: Listener, L: Ledger> Passage for Flattening<'a, T, L> {
     ghost use Rattle.capture_flat.specs.Taking.{FlatStart, FlatBegins, FlatStands, FlatRefuses, FlatBreaks, FlatKnows};
     ghost use Rattle.capture_flat.specs.Taking.{flat_at, flat_closing, flat_due, flat_number};
     ghost use Rattle.event_loop.specs.Pausing.{most_after};
+    ghost use Rattle.gpu_capture.specs.Draft.{HasRoom, IsOpen};
 
     type Refusal = FlatRefusal;
 
@@ -61,15 +61,18 @@ impl<'a, T: Listener, L: Ledger> Passage for Flattening<'a, T, L> {
 
     ghost most = { λ _ _ _ _. most_after };
 
-    ghost ready = { λ x _. (x.file.version ≤ 3) × (x.file.size + 4 ≤ 2 ^ 30) };
+    ghost ready = { λ x _. IsOpen x.file };
 
-    ghost may_take = { λ x n. x.file.size + 8 * n + 4 ≤ 2 ^ 30 };
+    ghost may_take = { λ x n. HasRoom x.file (8 * n) };
 
     ghost same = { λ x y. (x.rig.ghost_name ≡ y.rig.ghost_name) × (x.taps.ghost_name ≡ y.taps.ghost_name)
         × (x.steps.ghost_name ≡ y.steps.ghost_name) };
 
     fn begin(&mut self, version: u8) {
-        self.file = FlatFile { version, size: 0 };
+        self.file = CaptureFile {
+            version: version.max(2),
+            size: 0,
+        };
         self.rig.raise(version);
     }
 
@@ -106,15 +109,15 @@ impl<'a, T: Listener, L: Ledger> Passage for Flattening<'a, T, L> {
             played,
         };
         allowed(performed.ram, operation);
-        let after = self.file.size + due_size(performed);
-        if after + 4 > LIMIT {
+        let bytes = due_size(self.file, performed);
+        if !self.file.has_room(bytes) {
             return Err(Halt::Refuses {
                 why: FlatRefusal::TooMuch { event: number },
             });
         }
-        match put_due(self.file.version, buffered, out, performed) {
+        match put_due(self.file, buffered, out, performed) {
             Ok(()) => {
-                self.file.size = after;
+                self.file.size += bytes;
                 Ok(())
             }
             Err(event) => Err(Halt::Lacks { event }),
@@ -122,8 +125,7 @@ impl<'a, T: Listener, L: Ledger> Passage for Flattening<'a, T, L> {
     }
 
     fn most_words(&self, at_hand: usize) -> usize {
-        let fitting = (LIMIT - 4).saturating_sub(self.file.size) / 8;
-        at_hand.min(fitting as usize)
+        at_hand.min((self.file.room() / 8) as usize)
     }
 
     fn take_words<K: Sink>(
@@ -146,7 +148,7 @@ impl<'a, T: Listener, L: Ledger> Passage for Flattening<'a, T, L> {
         out: &mut K,
     ) -> Result<(), Halt<FlatRefusal>> {
         match stop {
-            Stop::End => match put_last(self.file.version, buffered, out, self.rig.played()) {
+            Stop::End => match put_last(self.file, buffered, out, self.rig.played()) {
                 Ok(()) => Ok(()),
                 Err(event) => Err(Halt::Lacks { event }),
             },

@@ -9,12 +9,11 @@ ghost use Rattle.event_play.specs.Streams.{streams};
 ghost use Rattle.capture_flat.specs.Passing.{EndsFlat, MayReadFault, MayWriteFault, IsEnding};
 
 use crate::ending::{FlatEnding, flat_ending};
-use crate::file::FlatFile;
 use crate::passage::Flattening;
 use dev_io::{Sink, Source};
 use event_loop::pass_all;
 use event_play::Rig;
-use gpu_capture::EventReader;
+use gpu_capture::{CaptureFile, EventReader};
 use gpu_taps::Listener;
 use std::sync::ledger::Ledger;
 use vram_store::Steps;
@@ -51,7 +50,7 @@ pub fn flat<S: Source, K: Sink, T: Listener, L: Ledger>(
     ensures read_faults { S.faults source.old ≤ S.faults source.new }
     ensures write_faults { K.faults out.old ≤ K.faults out.new }
 {
-    let file = FlatFile {
+    let file = CaptureFile {
         version: 0,
         size: 0,
     };

@@ -9,15 +9,16 @@ use Rattle.gpu_capture.proofs.Written.{word_length}
 use Rattle.gpu_capture.specs.declared.event.Event.{Event}
 use Rattle.gpu_capture.specs.Written.{spell}
 use Rattle.gpu_capture.proofs.Spelled.{spell-append, wrote_on}
-use Rattle.capture_slim.specs.File.{begun, head_due, head_at, due, IsFile, IsDraft, IsLacking, FailsNext}
+use Rattle.capture_slim.specs.File.{begun, head_due, due, IsFile, IsDraft, IsLacking, FailsNext}
+use Rattle.gpu_capture.specs.Draft.{head_at}
 use Rattle.capture_slim.specs.File.{EndsTooLong, output_of}
 use Rattle.gathered_out.specs.Pieces.{AreOut, BreaksOff, Piece, bytes_of}
 use Rattle.gathered_out.proofs.Pieces.{all_out, breaks_all}
 use Rattle.capture_slim.specs.Places.{kept_of}
 use Rattle.capture_slim.specs.declared.ending.SlimEnding.{SlimEnding}
 use Rattle.capture_slim.specs.declared.ending.SlimEnding.TheVariants.{Done, Stopped, NotFlat, TooLong, WriteFailed}
-use Rattle.capture_slim.specs.declared.file.Draft.{Draft}
-use Rattle.capture_slim.specs.declared.file.SlimFile.{SlimFile}
+use Rattle.gpu_capture.specs.declared.draft.Draft.{Draft}
+use Rattle.gpu_capture.specs.declared.draft.CaptureFile.{CaptureFile}
 use Rattle.capture_slim.proofs.Rests.{fails_wider, kept_append}
 
 -- ---- the file header
@@ -25,7 +26,7 @@ use Rattle.capture_slim.proofs.Rests.{fails_wider, kept_append}
 begun_size : (version : ℕ) (e : Event) (events : List Event) → 8 ≤ length (begun version (e ∷ events))
 begun_size version e events = omega (arith, length-append (head_of version) (spell (e ∷ events)))
 
-pub head_same : (file : SlimFile) (base held : Option (List ℕ)) (kept : List Event) → IsFile file base held kept
+pub head_same : (file : CaptureFile) (base held : Option (List ℕ)) (kept : List Event) → IsFile file base held kept
     → head_at file ≡ head_due file.version kept
 head_same file base held [] is = let none : (file.size == 0) ≡ true = grind (arith, is.size_is) in rw none refl
 head_same file base held (e ∷ events) is =
@@ -63,12 +64,12 @@ written_more version [] e = omega
 written_more version (x ∷ kept) e =
     omega (arith, length-append (head_of version ++ spell ((x ∷ kept) ++ e ∷ [])) spelled_end, word_length (tag_of 0 0))
 
-due_same : (file : SlimFile) (base held : Option (List ℕ)) (kept : List Event) (e : Event) → IsFile file base held kept
-    → due file e ≡ head_due file.version kept ++ spelled e
+due_same : (file : CaptureFile) (base held : Option (List ℕ)) (kept : List Event) (e : Event)
+    → IsFile file base held kept → due file e ≡ head_due file.version kept ++ spelled e
 due_same file base held kept e is = ap (λ bytes. bytes ++ spelled e) (head_same file base held kept is)
 
-size_more : (file : SlimFile) (base held : Option (List ℕ)) (kept : List Event) (e : Event) → IsFile file base held kept
-    → file.size + length (due file e) ≡ length (begun file.version (kept ++ e ∷ []))
+size_more : (file : CaptureFile) (base held : Option (List ℕ)) (kept : List Event) (e : Event)
+    → IsFile file base held kept → file.size + length (due file e) ≡ length (begun file.version (kept ++ e ∷ []))
 size_more file base held kept e is =
     let same = ap length (due_same file base held kept e is) in
     let all = ap length (begun_more file.version kept e) in
@@ -133,7 +134,7 @@ breaks_last pieces p held now number off =
 
 -- ---- what is buffered
 
-abbrev draft_of : SlimFile → List Piece → Draft
+abbrev draft_of : CaptureFile → List Piece → Draft
 draft_of file pieces = record { file = file; buffered = pieces }
 
 -- nothing is buffered, and no event stays
@@ -149,7 +150,7 @@ first_draft version held = record {
 }
 
 -- what was buffered is written before it, or is still buffered
-pub out_draft : (file : SlimFile) (pieces buffered : List Piece) (base held now : Option (List ℕ))
+pub out_draft : (file : CaptureFile) (pieces buffered : List Piece) (base held now : Option (List ℕ))
     (outs : List (Option Event)) → IsDraft (draft_of file pieces) base held outs → AreOut held pieces now buffered
     → IsDraft (draft_of file buffered) base now outs
 out_draft file pieces buffered base held now outs is out = record {
@@ -192,7 +193,7 @@ module _ (draft : Draft) (base held : Option (List ℕ)) (outs : List (Option Ev
   abbrev pieces : List Piece
   pieces = draft.buffered ++ piece ∷ []
 
-  abbrev new_file : SlimFile
+  abbrev new_file : CaptureFile
   new_file = record { version = version; size = after }
 
   due_is : due draft.file e ≡ head_due version kept ++ spelled e

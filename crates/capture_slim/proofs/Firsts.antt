@@ -18,7 +18,8 @@ use Rattle.dead_drawing.specs.Laws.{height_for}
 use Rattle.dead_drawing.proofs.PacketLaw.{ports_append}
 use Rattle.capture_slim.specs.Came.{Came, ClosesFile, EndsPushed, EndsRefused, EndsStop, FailsAny, FailsLast, HoldWords}
 use Rattle.capture_slim.specs.Came.{StopsAs, and_event, window_for}
-use Rattle.capture_slim.specs.File.{begun, head_at, head_due, IsDraft, IsFile, IsTooMuch, Fails, FailsIn, FailsNext}
+use Rattle.gpu_capture.specs.Draft.{head_at}
+use Rattle.capture_slim.specs.File.{begun, head_due, IsDraft, IsFile, IsTooMuch, Fails, FailsIn, FailsNext}
 use Rattle.capture_slim.specs.File.{FailsRest, Output, output_of}
 use Rattle.capture_slim.specs.Passing.{FailsAt, Passed, WritesAll, output_to, slim_file, slim_of}
 use Rattle.capture_slim.specs.Places.{kept_of, places}
@@ -28,8 +29,8 @@ use Rattle.capture_slim.specs.Window.{pushed}
 use Rattle.capture_slim.specs.Window.{all_left, left_of, waiting}
 use Rattle.capture_slim.specs.declared.ending.SlimEnding.{SlimEnding}
 use Rattle.capture_slim.specs.declared.ending.SlimEnding.TheVariants.{Done, Stopped, NotFlat, TooLong, WriteFailed}
-use Rattle.capture_slim.specs.declared.file.Draft.{Draft}
-use Rattle.capture_slim.specs.declared.file.SlimFile.{SlimFile}
+use Rattle.gpu_capture.specs.declared.draft.Draft.{Draft}
+use Rattle.gpu_capture.specs.declared.draft.CaptureFile.{CaptureFile}
 use Rattle.capture_slim.specs.declared.queue.Queue.{Queue}
 use Rattle.capture_slim.specs.declared.slot.Slot.{Slot}
 use Rattle.capture_slim.proofs.Files.{head_same, begun_end, written_most}
@@ -175,7 +176,7 @@ fails_among output outs number ending fails =
 -- ---- the end
 
 -- a file as one of this version
-abbrev pub of_version : ℕ → SlimFile → SlimFile
+abbrev pub of_version : ℕ → CaptureFile → CaptureFile
 of_version version file = record { version = version; size = file.size }
 
 module _ (passed : Passed) (window : Window) (draft : Draft) (count : ℕ) (held : Option (List ℕ))
@@ -250,7 +251,7 @@ module _ (passed : Passed) (window : Window) (draft : Draft) (count : ℕ) (held
   rest_stopped stop now (NotFlat at) most fails = absurd fails
 
   -- all was written, to a file of the same version
-  module _ (file : SlimFile) (mid : Option (List ℕ)) (same : file.version ≡ draft.file.version)
+  module _ (file : CaptureFile) (mid : Option (List ℕ)) (same : file.version ≡ draft.file.version)
       (is : IsFile file passed.base mid (kept_of (gone ++ rest))) where
     version_is : file.version ≡ passed.version
     version_is = same ∙ came.version_is

@@ -2,7 +2,9 @@ pub mod Awaiting
 pub mod Files
 pub mod Firsts
 pub mod Late
+pub mod LeavingLaw
 pub mod ReadAgain
+pub mod ReaderStops
 pub mod Rests
 pub mod Ports
 pub mod PushLemmas

@@ -11,7 +11,8 @@ use Rattle.capture_slim.specs.Stream.{StreamLaw, LeavesLaw, leaving, leaving_fro
 use Rattle.capture_slim.specs.Stream.{window_after}
 use Rattle.capture_slim.specs.Window.{Window, IsBegun, first_window, left_of, pushed, value}
 use Rattle.capture_slim.specs.declared.slot.Slot.{Slot}
-use Rattle.capture_slim.proofs.WindowLaw.{one_more, pushed_begun, leaving_law, end_law}
+use Rattle.capture_slim.proofs.LeavingLaw.{leaving_law, end_law}
+use Rattle.capture_slim.proofs.WindowLaw.{one_more, pushed_begun}
 
 abbrev Outs : Type 0
 Outs = List (Option Event)

@@ -10,14 +10,15 @@ use Rattle.event_play.specs.Ends.{IsNotEnd}
 use Rattle.event_play.specs.Ports.{IsAtPorts, AreAtPorts}
 use Rattle.dead_drawing.specs.Dead.{window_events}
 use Rattle.dead_drawing.specs.Laws.{height_for}
-use Rattle.capture_slim.specs.File.{AreFrom, IsDraft, head_at}
+use Rattle.capture_slim.specs.File.{AreFrom, IsDraft}
+use Rattle.gpu_capture.specs.Draft.{head_at}
 use Rattle.capture_slim.specs.Passing.{FailsAt, IsAmongLast, Passed, WritesAll, WritesPart, slim_file}
 use Rattle.capture_slim.specs.Stream.{outs, window_after}
 use Rattle.capture_slim.specs.Window.{Window, first_window, waiting}
 use Rattle.capture_slim.specs.declared.ending.SlimEnding.{SlimEnding}
 use Rattle.capture_slim.specs.declared.ending.SlimEnding.TheVariants.{Done, Stopped, NotFlat, TooLong, WriteFailed}
-use Rattle.capture_slim.specs.declared.file.Draft.{Draft}
-use Rattle.capture_slim.specs.declared.file.SlimFile.{SlimFile}
+use Rattle.gpu_capture.specs.declared.draft.Draft.{Draft}
+use Rattle.gpu_capture.specs.declared.draft.CaptureFile.{CaptureFile}
 
 -- the values of port events are 32-bit words
 abbrev pub HoldWords : List Event → Type 0
@@ -109,7 +110,7 @@ StopsAs stop number (WriteFailed at) = (at ≡ number) × (stop ≡ End)
 StopsAs stop number ending = ⊥
 
 -- the bytes written there
-abbrev pub ClosesFile : SlimFile → (before now : Option (List ℕ)) → SlimEnding → Type 0
+abbrev pub ClosesFile : CaptureFile → (before now : Option (List ℕ)) → SlimEnding → Type 0
 ClosesFile file before now Done = now ≡ appended before (head_at file ++ spelled_end)
 ClosesFile file before now (WriteFailed number) = AppendsPart before now (head_at file ++ spelled_end)
 ClosesFile file before now ending = now ≡ before

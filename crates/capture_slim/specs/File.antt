@@ -1,8 +1,9 @@
 -- The bytes that are written of the events that stay (our own rule). Without any of them, nothing is written before the
 -- end, not even the file header.
-use Rattle.std.specs.Prelude.{◌≡◌, ◌≤◌, ◌<◌, ℕ, List, [], ◌∷◌, ◌++◌, ◌+◌, ◌==◌, Option, Some, length, if◌then◌else◌}
+use Rattle.std.specs.Prelude.{◌≡◌, ◌≤◌, ◌<◌, ℕ, List, [], ◌∷◌, ◌++◌, ◌+◌, Option, Some, length}
 use Rattle.dev_io.specs.Device.{appended, AppendsPart}
-use Rattle.gpu_capture.specs.Capture.{IsVersion, head_of, limit}
+use Rattle.gpu_capture.specs.Capture.{head_of, limit}
+use Rattle.gpu_capture.specs.Draft.{head_at}
 use Rattle.gpu_capture.specs.Written.{spelled, written}
 use Rattle.gpu_capture.specs.declared.event.Event.{Event}
 use Rattle.gpu_capture.specs.Written.{spell}
@@ -10,8 +11,8 @@ use Rattle.gathered_out.specs.Pieces.{BreaksOff, Piece, bytes_of}
 use Rattle.capture_slim.specs.Places.{kept_of}
 use Rattle.capture_slim.specs.declared.ending.SlimEnding.{SlimEnding}
 use Rattle.capture_slim.specs.declared.ending.SlimEnding.TheVariants.{TooLong, WriteFailed}
-use Rattle.capture_slim.specs.declared.file.Draft.{Draft}
-use Rattle.capture_slim.specs.declared.file.SlimFile.{SlimFile}
+use Rattle.gpu_capture.specs.declared.draft.Draft.{Draft}
+use Rattle.gpu_capture.specs.declared.draft.CaptureFile.{CaptureFile}
 
 -- the output: its version, the bytes in the sink before it and now (None if the sink does not state them)
 pub record Output : Type 0 where
@@ -28,28 +29,19 @@ abbrev pub begun : (version : ℕ) → List Event → List ℕ
 begun version [] = []
 begun version (e ∷ events) = head_of version ++ spell (e ∷ events)
 
--- a file of a known version that has room for an End record
-pub record HasRoom (file : SlimFile) : Type 0 where
-  pub version : IsVersion file.version
-  pub size : file.size + 4 ≤ limit
-
 -- the file header if there is no event yet: it is written with the first record or with End
 abbrev pub head_due : (version : ℕ) → List Event → List ℕ
 head_due version [] = head_of version
 head_due version (e ∷ events) = []
 
 -- these events were written
-pub record IsFile (file : SlimFile) (base held : Option (List ℕ)) (kept : List Event) : Type 0 where
+pub record IsFile (file : CaptureFile) (base held : Option (List ℕ)) (kept : List Event) : Type 0 where
   pub stands : held ≡ appended base (begun file.version kept)
   pub size_is : file.size ≡ length (begun file.version kept)
   pub fits : file.size + 4 ≤ limit
 
--- the file header if the file is still empty
-abbrev pub head_at : SlimFile → List ℕ
-head_at file = if file.size == 0 then head_of file.version else []
-
 -- the record of an event, after the file header if it is the first
-abbrev pub due : SlimFile → Event → List ℕ
+abbrev pub due : CaptureFile → Event → List ℕ
 due file event = head_at file ++ spelled event
 
 -- ---- after events that were written

@@ -1,4 +1,5 @@
 pub mod Came
+pub mod Ended
 pub mod File
 pub mod Passing
 pub mod Places

@@ -19,6 +19,8 @@ use Rattle.dead_drawing.specs.Laws.{height_for}
 use Rattle.dead_drawing.specs.Slim.{slim_events}
 use Rattle.gpu_capture.specs.Reading.{AreFewAfter, AreNeeded, AreNeededToEnd, Said, SaysFirst, SaysStop}
 use Rattle.event_play.specs.Alike.{IsFlatCapture}
+use Rattle.event_loop.specs.Ending as loop
+use Rattle.capture_slim.specs.Ended.{slim_ended}
 use Rattle.capture_slim.specs.File.{begun, head_due, Fails, Output}
 use Rattle.capture_slim.specs.Places.{slim_first}
 use Rattle.capture_slim.specs.declared.ending.SlimEnding.{SlimEnding}
@@ -201,20 +203,14 @@ pub record EndsSlim (before now : Streams) (ending : SlimEnding) : Type 0 where
 
 -- ---- causes
 
--- a failure of the source ended it
 abbrev pub MayReadFault : SlimEnding → Type 0
-MayReadFault (Stopped number (ReadFault byte)) = Unit {0}
-MayReadFault ending = ⊥
+MayReadFault ending = loop.MayReadFault (slim_ended ending)
 
--- a failure of the sink ended it
 abbrev pub MayWriteFault : SlimEnding → Type 0
-MayWriteFault (WriteFailed number) = Unit {0}
-MayWriteFault ending = ⊥
+MayWriteFault ending = loop.MayWriteFault (slim_ended ending)
 
--- an ending that can occur: `Stopped` never has the stop End
 abbrev pub IsEnding : SlimEnding → Type 0
-IsEnding (Stopped number End) = ⊥
-IsEnding ending = Unit {0}
+IsEnding ending = loop.IsEnding (slim_ended ending)
 
 -- an ending of code that only writes: it can occur, and the source is not its cause
 pub record IsWriteEnding (ending : SlimEnding) : Type 0 where

@@ -4,7 +4,6 @@
 
 mod effect;
 mod ending;
-mod file;
 pub mod laws;
 mod pass;
 mod queue;
@@ -17,5 +16,5 @@ mod slots;
 mod track;
 mod waiting;
 
-pub use ending::SlimEnding;
+pub use ending::{SlimEnding, SlimRefusal};
 pub use pass::Slim;

@@ -1,5 +1,5 @@
 // Reads a whole capture and writes it without its dead drawing.
-ghost use Rattle.std.specs.Prelude.{◌≡◌, ◌≤◌, [], IfOk};
+ghost use Rattle.std.specs.Prelude.{◌≡◌, ◌≤◌, IfOk};
 ghost use Rattle.px_num.specs.Height.{short_height};
 ghost use Rattle.dev_io.specs.Device.{Rose};
 ghost use Rattle.gathered_out.specs.Causes.{Causes};
@@ -8,14 +8,12 @@ ghost use Rattle.capture_slim.specs.Passing.{EndsSlim, IsEnding, MayReadFault, M
 ghost use Rattle.capture_slim.specs.Window.{first_window};
 
 use crate::ending::SlimEnding;
-use crate::file::{Draft, SlimFile};
 use crate::slim::{finish, take_event};
 use crate::waiting::Waiting;
 use dev_io::{Sink, Source};
 use event_loop::{next_event, write_at_pause};
 use event_play::TALL_VERSION;
-use gathered_out::OutputBuffer;
-use gpu_capture::EventReader;
+use gpu_capture::{Draft, EventReader};
 use px_num::OutOfMemory;
 use std::alloc::Global;
 use std::marker::Model;
@@ -85,7 +83,7 @@ fn pass_on<S: Source, K: Sink>(window: &mut Waiting, source: &mut S, out: &mut K
     // If no header was read, there are no events and nothing is written.
     let version = reader.version().max(1);
     raise(window, version);
-    let mut draft = first_draft(version);
+    let mut draft = Draft::new(version, 0);
     let mut count = 0;
     let mut since = 0;
     'events: loop {
@@ -104,17 +102,6 @@ fn pass_on<S: Source, K: Sink>(window: &mut Waiting, source: &mut S, out: &mut K
             }
             Err(stop) => return finish(window, stop, &mut draft, count, out),
         }
-    }
-}
-
-// Returns an empty file of this version, with nothing buffered.
-fn first_draft(version: u8) -> Draft
-    ensures file { result.file ≡ record { version = version; size = 0 } }
-    ensures buffered { result.buffered ≡ [] }
-{
-    Draft {
-        file: SlimFile { version, size: 0 },
-        buffered: OutputBuffer::new(),
     }
 }
 

@@ -4,62 +4,24 @@ ghost use Rattle.std.specs.Prelude.{MatchResult, OnOk};
 ghost use Rattle.dev_io.specs.Device.{Writes, side};
 ghost use Rattle.gathered_out.specs.Causes.{Causes};
 ghost use Rattle.gpu_capture.specs.Capture.{IsVersion};
-ghost use Rattle.gpu_capture.specs.Written.{spelled, spelled_end};
+ghost use Rattle.gpu_capture.specs.Written.{spelled};
 ghost use Rattle.gpu_capture.specs.declared.event.Event.{Event as SpecEvent};
 ghost use Rattle.event_play.specs.Ports.{IsAtPorts};
-ghost use Rattle.capture_slim.specs.File.{AreFrom, EndsTooLong, FailsNext, HasRoom, IsDraft, LacksFrom, due, head_at};
+ghost use Rattle.gpu_capture.specs.Draft.{IsOpen, end_at};
+ghost use Rattle.capture_slim.specs.File.{AreFrom, EndsTooLong, FailsNext, IsDraft, LacksFrom, due};
 ghost use Rattle.capture_slim.specs.File.{output_of};
 ghost use Rattle.capture_slim.specs.Passing.{EndsWriting, MayWriteFault, IsWriteEnding};
 
 use crate::ending::SlimEnding;
-use crate::file::{Draft, SlimFile};
 use arrayvec::ArrayVec;
-use dev_io::{Failed, Sink};
+use dev_io::{Failed, Sink, write_all};
 use gathered_out::OutputBuffer;
-use gpu_capture::{Event, LIMIT, RECORD_MOST, head_bytes, record_bytes, write_end, write_start};
+use gpu_capture::{CaptureFile, Draft, Event, RECORD_MOST, WITH_HEAD_MOST, record_bytes};
 
-/// The maximum length in bytes of a record together with the file header.
-const DUE_MOST: usize = 16;
-
-// Writes the file header if nothing was written or buffered before.
-fn write_head<K: Sink>(out: &mut K, file: SlimFile) -> Result<(), Failed>
-    requires { IsVersion file.version }
-    ensures { Writes (side K.held K.faults) out.old out.new (head_at file) result }
-{
-    if file.size == 0 {
-        write_start(out, file.version)
-    } else {
-        Ok(())
-    }
-}
-
-// Appends `more` to `bytes`. Requires at most 16 bytes in all.
-fn put(bytes: &mut ArrayVec<u8, DUE_MOST>, more: &[u8])
-    requires { length bytes.old.items + length more.now ≤ 16 }
-    ensures { bytes.new.items ≡ bytes.old.items ++ more.now }
-{
-    if let Err(_) = bytes.try_extend_from_slice(more) {
-        unreachable!()
-    }
-}
-
-// Appends the file header to the empty `bytes` if nothing was written or buffered before.
-fn put_head(bytes: &mut ArrayVec<u8, DUE_MOST>, file: SlimFile)
-    requires none { bytes.old.items ≡ [] }
-    requires version { IsVersion file.version }
-    ensures { bytes.new.items ≡ head_at file }
-{
-    if file.size == 0 {
-        put(bytes, &head_bytes(file.version));
-    }
-}
-
-// Returns the record of a port event: at most 8 bytes.
-#[tactic(auto, using(gpu_capture::proofs::Spelled::record_length))]
+// Returns the record of a port event.
 fn port_record(event: &Event) -> ArrayVec<u8, RECORD_MOST>
     requires { IsAtPorts event.now }
-    ensures value { result.items ≡ spelled event.now }
-    ensures few { length result.items ≤ 8 }
+    ensures { result.items ≡ spelled event.now }
 {
     match *event {
         Event::Gp0 { .. } | Event::Gp1 { .. } | Event::Read | Event::Stat | Event::Skip => {
@@ -69,26 +31,22 @@ fn port_record(event: &Event) -> ArrayVec<u8, RECORD_MOST>
     }
 }
 
-// Returns the record of `event`, after the file header if this is the first record.
-fn due_bytes(file: SlimFile, event: &Event) -> ArrayVec<u8, DUE_MOST>
+// Returns the record of a port event, after the file header if the file is empty.
+fn due_bytes(file: CaptureFile, event: &Event) -> ArrayVec<u8, WITH_HEAD_MOST>
     requires version { IsVersion file.version }
     requires event { IsAtPorts event.now }
     ensures value { result.items ≡ due file event.now }
-    ensures few { length result.items ≤ 16 }
+    ensures few { length result.items ≤ 24 }
 {
-    let mut bytes = ArrayVec::new();
-    put_head(&mut bytes, file);
-    put(&mut bytes, port_record(event).as_slice());
-    bytes
+    file.with_head(port_record(event).as_slice())
 }
 
 /// Writes the End record, after the file header if there was no record before.
-pub(crate) fn write_last<K: Sink>(out: &mut K, file: SlimFile) -> Result<(), Failed>
+pub(crate) fn write_last<K: Sink>(out: &mut K, file: CaptureFile) -> Result<(), Failed>
     requires version { IsVersion file.version }
-    ensures { Writes (side K.held K.faults) out.old out.new (head_at file ++ spelled_end) result }
+    ensures { Writes (side K.held K.faults) out.old out.new (end_at file) result }
 {
-    write_head(out, file)?;
-    write_end(out)
+    write_all(out, file.end().as_slice())
 }
 
 // Flushes the buffer and returns `TooLong` at event `number`, or `WriteFailed` if the flush fails.
@@ -113,7 +71,7 @@ pub(crate) fn add_record<K: Sink>(
     event: &Event,
     out: &mut K,
 ) -> Result<(), SlimEnding>
-    requires file { HasRoom draft.old.file }
+    requires file { IsOpen draft.old.file }
     requires event { IsAtPorts event.now }
     ensures ok { (base : Option (List ℕ)) (outs : List (Option SpecEvent))
         → IsDraft draft.old base (K.held out.old) outs
@@ -130,15 +88,11 @@ pub(crate) fn add_record<K: Sink>(
     ensures writing { EndsWriting (K.faults out.old) (K.faults out.new) result }
 {
     let bytes = due_bytes(draft.file, event);
-    let after = draft.file.size + bytes.len() as u32;
-    if after + 4 > LIMIT {
+    if !draft.file.has_room(bytes.len() as u32) {
         return Err(end_too_long(&mut draft.buffered, number, out));
     }
-    match draft.buffered.put(number, bytes.as_slice(), out) {
-        Ok(()) => {
-            draft.file.size = after;
-            Ok(())
-        }
+    match draft.put(number, bytes.as_slice(), out) {
+        Ok(()) => Ok(()),
         Err(event) => Err(SlimEnding::WriteFailed { event }),
     }
 }

@@ -2,8 +2,9 @@
 ghost use Rattle.std.specs.Prelude.{◌≡◌, ◌≤◌, ◌+◌, ◌++◌, ◌^◌, List, ℕ, Option, drop, take, length, IfErr, OnOk};
 ghost use Rattle.std.specs.Prelude.{MatchResult};
 ghost use Rattle.gpu_capture.specs.declared.event.Event.{Event as SpecEvent};
+ghost use Rattle.gpu_capture.specs.Draft.{IsOpen};
 ghost use Rattle.capture_slim.specs.Came.{BuffersFrom};
-ghost use Rattle.capture_slim.specs.File.{AreFrom, FailsFirst, FailsRest, HasRoom, IsDraft, IsFile, LacksFrom};
+ghost use Rattle.capture_slim.specs.File.{AreFrom, FailsFirst, FailsRest, IsDraft, IsFile, LacksFrom};
 ghost use Rattle.capture_slim.specs.File.{output_of};
 ghost use Rattle.capture_slim.specs.Passing.{EndsWriting};
 ghost use Rattle.capture_slim.specs.Places.{kept_of};
@@ -11,10 +12,10 @@ ghost use Rattle.capture_slim.specs.Stream.{first_left};
 ghost use Rattle.capture_slim.specs.Window.{all_left, waiting};
 
 use crate::ending::SlimEnding;
-use crate::file::Draft;
 use crate::record::add_record;
 use crate::waiting::Waiting;
 use dev_io::Sink;
+use gpu_capture::Draft;
 
 // Removes the first waiting event, which has number `number`, and buffers its record unless it was dropped.
 fn add_next<K: Sink>(
@@ -23,7 +24,7 @@ fn add_next<K: Sink>(
     number: u64,
     out: &mut K,
 ) -> Result<(), SlimEnding>
-    requires file { HasRoom draft.old.file }
+    requires file { IsOpen draft.old.file }
     ensures window { window.new ≡ record window.old { slots = drop 1 window.old.slots } }
     ensures ok { (base : Option (List ℕ)) (outs : List (Option SpecEvent))
         → IsDraft draft.old base (K.held out.old) outs
@@ -52,7 +53,7 @@ fn add_rest<K: Sink>(
     count: u64,
     out: &mut K,
 ) -> Result<(), SlimEnding>
-    requires file { HasRoom draft.old.file }
+    requires file { IsOpen draft.old.file }
     requires few { length (waiting window.old) ≤ count }
     ensures ok { (base : Option (List ℕ)) (outs : List (Option SpecEvent))
         → IsDraft draft.old base (K.held out.old) outs
@@ -88,7 +89,7 @@ pub(crate) fn write_rest<K: Sink>(
     count: u64,
     out: &mut K,
 ) -> Result<(), SlimEnding>
-    requires file { HasRoom draft.old.file }
+    requires file { IsOpen draft.old.file }
     requires few { length (waiting window.old) ≤ count }
     ensures ok { (base : Option (List ℕ)) (outs : List (Option SpecEvent))
         → IsDraft draft.old base (K.held out.old) outs

@@ -3,24 +3,24 @@ ghost use Rattle.std.specs.Prelude.{◌≡◌, ◌≤◌, ◌<◌, ◌+◌, ◌+
 ghost use Rattle.std.specs.Prelude.{IfErr, MatchResult, OnOk};
 ghost use Rattle.gathered_out.specs.Causes.{Causes};
 ghost use Rattle.gpu_capture.specs.Capture.{IsVersion};
+ghost use Rattle.gpu_capture.specs.Draft.{IsOpen};
 ghost use Rattle.gpu_capture.specs.Written.{HoldsWords};
 ghost use Rattle.gpu_capture.specs.declared.event.Event.{Event as SpecEvent};
 ghost use Rattle.gpu_capture.specs.Reader.{IsReadFault};
 ghost use Rattle.event_play.specs.Ports.{IsAtPorts};
 ghost use Rattle.capture_slim.specs.Came.{Came, ClosesFile, EndsEvent, EndsPushed, EndsRefused, EndsStop};
 ghost use Rattle.capture_slim.specs.Came.{BuffersFrom, HasCount, StopsAs, and_event};
-ghost use Rattle.capture_slim.specs.File.{AreFrom, HasRoom, LacksFrom};
+ghost use Rattle.capture_slim.specs.File.{AreFrom, LacksFrom};
 ghost use Rattle.capture_slim.specs.Passing.{EndsWriting, MayReadFault, MayWriteFault, IsEnding, IsWriteEnding};
 ghost use Rattle.capture_slim.specs.Passing.{Passed};
 ghost use Rattle.capture_slim.specs.Window.{waiting};
 
 use crate::ending::SlimEnding;
-use crate::file::{Draft, SlimFile};
 use crate::record::{add_record, write_last};
 use crate::rest::write_rest;
 use crate::waiting::Waiting;
 use dev_io::Sink;
-use gpu_capture::{Event, Stop};
+use gpu_capture::{CaptureFile, Draft, Event, Stop};
 
 // Whether an event is one of the ports.
 fn is_at_ports(event: &Event) -> bool
@@ -56,12 +56,12 @@ fn push_event<K: Sink>(
     count: u64,
     out: &mut K,
 ) -> Result<(), SlimEnding>
-    requires file { HasRoom draft.old.file }
+    requires file { IsOpen draft.old.file }
     requires port { IsAtPorts event }
     requires count { HasCount window.old count }
     ensures ok { (passed : Passed) → Came passed window.old draft.old count (K.held out.old)
         → OnOk result (Came (and_event passed event) window.new draft.new (count + 1) (K.held out.new)) }
-    ensures room { OnOk result (HasRoom draft.new.file) }
+    ensures room { OnOk result (IsOpen draft.new.file) }
     ensures ends { (passed : Passed) → Came passed window.old draft.old count (K.held out.old)
         → IfErr result (EndsPushed (and_event passed event) (K.held out.new)) }
     ensures late { (passed : Passed) (least : ℕ) → Came passed window.old draft.old count (K.held out.old)
@@ -81,7 +81,7 @@ fn push_event<K: Sink>(
 
 // Ends after `count` events at an event that is not at the ports. Writes the waiting events as if none followed.
 fn refuse<K: Sink>(window: &mut Waiting, draft: &mut Draft, count: u64, out: &mut K) -> SlimEnding
-    requires file { HasRoom draft.old.file }
+    requires file { IsOpen draft.old.file }
     requires count { HasCount window.old count }
     ensures ends { (passed : Passed) → Came passed window.old draft.old count (K.held out.old)
         → EndsRefused passed (K.held out.new) result }
@@ -103,11 +103,11 @@ pub(crate) fn take_event<K: Sink>(
     count: u64,
     out: &mut K,
 ) -> Result<(), SlimEnding>
-    requires file { HasRoom draft.old.file }
+    requires file { IsOpen draft.old.file }
     requires count { HasCount window.old count }
     ensures ok { (passed : Passed) → Came passed window.old draft.old count (K.held out.old)
         → OnOk result (Came (and_event passed event) window.new draft.new (count + 1) (K.held out.new)) }
-    ensures room { OnOk result (HasRoom draft.new.file) }
+    ensures room { OnOk result (IsOpen draft.new.file) }
     ensures ends { (passed : Passed) → Came passed window.old draft.old count (K.held out.old)
         → IfErr result (EndsEvent passed event (K.held out.new)) }
     ensures late { (passed : Passed) (least : ℕ) → Came passed window.old draft.old count (K.held out.old)
@@ -130,7 +130,7 @@ pub(crate) fn finish<K: Sink>(
     count: u64,
     out: &mut K,
 ) -> SlimEnding
-    requires file { HasRoom draft.old.file }
+    requires file { IsOpen draft.old.file }
     requires count { HasCount window.old count }
     ensures ends { (passed : Passed) → Came passed window.old draft.old count (K.held out.old)
         → EndsStop passed stop (K.held out.new) result }
@@ -146,7 +146,7 @@ pub(crate) fn finish<K: Sink>(
 }
 
 // Writes the End record if `stop` is End. `number`: the number of events plus 1.
-fn close_file<K: Sink>(file: SlimFile, stop: Stop, number: u64, out: &mut K) -> SlimEnding
+fn close_file<K: Sink>(file: CaptureFile, stop: Stop, number: u64, out: &mut K) -> SlimEnding
     requires { IsVersion file.version }
     ensures ends { StopsAs stop number result }
     ensures writes { ClosesFile file (K.held out.old) (K.held out.new) result }

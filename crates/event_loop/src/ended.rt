@@ -4,6 +4,7 @@ ghost use Rattle.gpu_capture.specs.Reader.{IsReadFault};
 ghost use Rattle.event_loop.specs.Closing.{closed_as, ended_by};
 ghost use Rattle.event_loop.specs.Ending.{MayReadFault, MayWriteFault, IsEnding};
 ghost use Rattle.event_loop.specs.Halting.{MayLack};
+ghost use Rattle.event_loop.specs.declared.ended.Ended.{Ended};
 
 use gpu_capture::Stop;
 
@@ -18,6 +19,19 @@ pub enum Ended<R> {
     Refused { why: R },
     /// The output of event `event` could not be written completely.
     WriteFailed { event: u64 },
+}
+
+/// The ending of a command that reads events. Each is an ending of a loop.
+pub trait AsEnded: Copy {
+    /// The command's own refusals.
+    type Refusal: Copy;
+
+    /// The ending as that of a loop.
+    ghost as_ended: { Self → Ended Self.Refusal };
+
+    /// Returns the ending as that of a loop.
+    fn ended(self) -> Ended<Self::Refusal>
+        ensures { result ≡ as_ended self };
 }
 
 /// Why the output of an event is not complete.

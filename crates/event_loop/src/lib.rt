@@ -8,7 +8,7 @@ mod passage;
 mod pause;
 mod stop;
 
-pub use ended::{Ended, Halt};
+pub use ended::{AsEnded, Ended, Halt};
 pub use pass::pass_all;
 pub use passage::Passage;
 pub use pause::{next_event, write_at_pause};

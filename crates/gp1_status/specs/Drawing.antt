@@ -3,8 +3,8 @@ use Rattle.std.specs.Prelude.{ℕ, ◌≤◌, ℤ, pos, negsuc, ◌+◌, ◌*◌
 use Rattle.px_num.specs.Number.{signed_11}
 use Rattle.px_num.specs.declared.shape.Box2.{Box2}
 use Rattle.gp1_status.specs.Registers.{Registers, bit}
-use Rattle.gp1_status.specs.declared.drawing.Flips.{Flips}
-use Rattle.gp1_status.specs.declared.drawing.Offset.{Offset}
+use Rattle.gp1_status.specs.declared.regs.drawing.Flips.{Flips}
+use Rattle.gp1_status.specs.declared.regs.drawing.Offset.{Offset}
 use Rattle.texture_page.specs.declared.page.Page.{Page}
 use Rattle.texture_page.specs.declared.page.Window.{Window}
 

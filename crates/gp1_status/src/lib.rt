@@ -4,17 +4,7 @@
 //! memory requires, 512 or 1024 rows.
 #![tactic(auto)]
 
-mod drawing;
-mod fields;
 pub mod laws;
 mod regs;
-mod shape;
-mod status;
-mod values;
-mod words;
-mod writes;
 
-pub use drawing::{Flips, Offset};
-pub use regs::Regs;
-pub use words::allows;
-pub use writes::clears;
+pub use regs::{Flips, Offset, Regs, allows, clears};

@@ -1,4 +1,5 @@
 pub mod Capture
+pub mod Draft
 pub mod Head
 pub mod Limit
 pub mod Reader

@@ -7,6 +7,7 @@
 #![tactic(auto)]
 
 mod block;
+mod draft;
 mod event;
 mod head;
 pub mod laws;
@@ -18,6 +19,7 @@ mod tags;
 mod write;
 
 pub use block::WordBlock;
+pub use draft::{CaptureFile, Draft, WITH_HEAD_MOST};
 pub use event::{Event, Stop};
 pub use head::head_among;
 pub use progress::{LIMIT, Progress};

@@ -74,7 +74,14 @@ pub fn write_event<K: Sink>(sink: &mut K, event: &Event) -> Result<(), Failed>
 pub fn write_end<K: Sink>(sink: &mut K) -> Result<(), Failed>
     ensures { Writes (side K.held K.faults) sink.old sink.new spelled_end result }
 {
-    write_all(sink, &bytes(tag(0, 0)))
+    write_all(sink, &end_bytes())
+}
+
+/// Returns an End record.
+pub(crate) fn end_bytes() -> [u8; 4]
+    ensures { result ≡ spelled_end }
+{
+    bytes(tag(0, 0))
 }
 
 // Returns the bytes of a word, the low byte first.

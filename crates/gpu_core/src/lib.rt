@@ -5,15 +5,8 @@
 //! with this essential part, and about the state that the call leads to.
 #![tactic(auto)]
 
-mod block;
-mod drawn;
-mod effect;
 mod gpu;
 pub mod laws;
-mod noted;
 mod parts;
-mod state;
-mod transfer;
 
-pub use gpu::Gpu;
-pub use noted::NotedWords;
+pub use gpu::{Gpu, NotedWords};

@@ -8,10 +8,8 @@ mod line;
 mod number;
 mod sums;
 mod tap;
-mod text;
 
-pub use line::{change_text, note_text, write_change, write_note, write_status, write_word};
+pub use line::{LineText, change_text, note_text, write_note, write_status, write_word};
 pub use number::{address_digits, decimal_text, hex_digits};
 pub use sums::{write_frame_sum, write_vram_sum};
 pub use tap::{write_last, write_sum, write_tap};
-pub use text::LineText;

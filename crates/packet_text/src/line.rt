@@ -1,14 +1,17 @@
-// The lines of words, of the status word and of notes.
-ghost use Rattle.std.specs.Prelude.{◌≡◌, ◌≤◌, None, Some, length};
+// The lines of words, of the status word, of notes and of changes.
+ghost use Rattle.std.specs.Prelude.{◌≡◌, ◌≤◌, None, Some, flat_map, length};
 ghost use Rattle.dev_io.specs.Device.{Writes, side};
 ghost use Rattle.packet_text.specs.Line.{word_line, status_line, note_name, note_line, change_line};
 
 use crate::number::{cell_digits, decimal_text, hex_digits, signed_text};
-use crate::text::{LineText, line_text};
+use arrayvec::ArrayVec;
 use dev_io::{Failed, Sink, write_all, write_pieces};
 use gp0_packets::Note;
 use itoa::Buffer;
 use px_num::{Box2, bits};
+
+/// The bytes of a line. The line of a note or of a change has at most 90.
+pub type LineText = ArrayVec<u8, 128>;
 
 /// Writes the line of a word that was read: eight hexadecimal digits.
 #[tactic(auto, unfolding(crate::specs::Line::word_line))]
@@ -55,24 +58,13 @@ pub fn change_text(note: &Note, before: u16, after: u16) -> LineText
     ])
 }
 
-/// Writes the line of a note, as [`note_text`] returns it. The class must be at most 9.
+/// Writes the line of a note: the bytes of [`note_text`], from which `list` too takes its lines. The class must be at
+/// most 9.
 pub fn write_note<K: Sink>(out: &mut K, note: &Note) -> Result<(), Failed>
     requires { note.now.class ≤ 9 }
     ensures { Writes (side K.held K.faults) out.old out.new (note_line note.now) result }
 {
     write_all(out, note_text(note).as_slice())
-}
-
-/// Writes the line of an item that changed a cell, as [`change_text`] returns it.
-pub fn write_change<K: Sink>(
-    out: &mut K,
-    note: &Note,
-    before: u16,
-    after: u16,
-) -> Result<(), Failed>
-    ensures { Writes (side K.held K.faults) out.old out.new (change_line note.now before after) result }
-{
-    write_all(out, change_text(note, before, after).as_slice())
 }
 
 // Returns the name of a note.
@@ -134,4 +126,18 @@ fn text_with_area(note: &Note, area: &Box2) -> LineText
     line_text(&[
         event, b" ", name, b" ", &head, b" ", x1, b" ", y1, b" ", x2, b" ", y2, b"\n",
     ])
+}
+
+// Returns the bytes of the pieces, one after another. They must be at most 128.
+fn line_text(pieces: &[&[u8]]) -> LineText
+    requires { length (flat_map (λ piece. piece.now) pieces.now) ≤ 128 }
+    ensures { result.items ≡ flat_map (λ piece. piece.now) pieces.now }
+{
+    let mut text = ArrayVec::new();
+    for piece in pieces {
+        if let Err(_) = text.try_extend_from_slice(piece) {
+            unreachable!()
+        }
+    }
+    text
 }

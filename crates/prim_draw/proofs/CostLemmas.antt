@@ -22,10 +22,10 @@ use Rattle.span_lanes.specs.Pattern.{Pattern, uniform, span_from}
 use Rattle.prim_draw.specs.Rectangles.{extent_at, pattern_of, rectangle_box, rectangle_setup_in}
 use Rattle.prim_draw.specs.Triangles.{draws, row_inside, lower_half, triangle_box, triangle_state, upper_half}
 use Rattle.span_lanes.specs.declared.span.DrawState.{DrawState}
-use Rattle.prim_draw.specs.declared.vertices.Polygon.{Polygon}
+use Rattle.prim_draw.specs.declared.primitives.Polygon.{Polygon}
 use Rattle.prim_draw.specs.declared.rectangles.Extent.{Extent}
 use Rattle.prim_draw.specs.declared.rectangles.RectangleSetup.{RectangleSetup}
-use Rattle.prim_draw.specs.declared.style.Style.{Style}
+use Rattle.prim_draw.specs.declared.settings.Style.{Style}
 use Rattle.prim_draw.proofs.PointCounts.{points_small}
 
 -- ---- triangles

@@ -27,8 +27,8 @@ use Rattle.prim_draw.specs.Triangles.{triangle_box, triangle_state, triangle_pai
 use Rattle.span_lanes.specs.declared.span.DrawState.{DrawState}
 use Rattle.prim_draw.specs.declared.rectangles.Extent.{Extent}
 use Rattle.prim_draw.specs.declared.rectangles.RectangleSetup.{RectangleSetup}
-use Rattle.prim_draw.specs.declared.style.Style.{Style}
-use Rattle.prim_draw.specs.declared.vertices.Polygon.{Polygon}
+use Rattle.prim_draw.specs.declared.settings.Style.{Style}
+use Rattle.prim_draw.specs.declared.primitives.Polygon.{Polygon}
 use Rattle.prim_draw.specs.Apart.{SameAt}
 use Rattle.prim_draw.specs.Staying.{DrawingIsLocal}
 use Rattle.prim_draw.proofs.ApartLemmas.{IsLocal, cells_same, each_same}

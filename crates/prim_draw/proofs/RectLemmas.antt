@@ -10,14 +10,14 @@ use Rattle.span_lanes.specs.TexelRows.{IsWholeRow, rows_pattern, texel_row}
 use Rattle.span_lanes.specs.Shade.{HasInside, paint_pixel, row_u, texture_of}
 use Rattle.span_lanes.specs.declared.span.Brush.{Brush}
 use Rattle.span_lanes.specs.declared.span.Paint.TheVariants.{Flat}
-use Rattle.span_lanes.specs.declared.texel_rows.TexelRows.{TexelRows}
+use Rattle.span_lanes.specs.declared.rows.texel_rows.TexelRows.{TexelRows}
 use Rattle.texel_lanes.specs.declared.texture.Texture.{Texture}
 use Rattle.prim_draw.specs.Rectangles.{paint_from, rectangle_paint}
 use Rattle.prim_draw.specs.Rows.{PaintsAs}
 use Rattle.prim_draw.specs.Rectangles.{IsPartOf}
 use Rattle.prim_draw.specs.ClippedRectangle.{AreTexelsOf, CanDrawRectangle, texels_of, rectangle_pattern}
 use Rattle.prim_draw.specs.declared.rectangles.RectangleSetup.{RectangleSetup}
-use Rattle.prim_draw.specs.declared.clipped_rectangle.ClippedRectangle.{ClippedRectangle}
+use Rattle.prim_draw.specs.declared.rectangles.ClippedRectangle.{ClippedRectangle}
 use Rattle.span_lanes.specs.declared.span.Run.{Run}
 
 -- the column of a texel, counted in two steps along a row

@@ -33,8 +33,8 @@ use Rattle.prim_draw.specs.Triangles.{triangle_box, triangle_state, upper_half, 
 use Rattle.span_lanes.specs.declared.span.DrawState.{DrawState}
 use Rattle.prim_draw.specs.declared.rectangles.Extent.{Extent}
 use Rattle.prim_draw.specs.declared.rectangles.RectangleSetup.{RectangleSetup}
-use Rattle.prim_draw.specs.declared.style.Style.{Style}
-use Rattle.prim_draw.specs.declared.vertices.Polygon.{Polygon}
+use Rattle.prim_draw.specs.declared.settings.Style.{Style}
+use Rattle.prim_draw.specs.declared.primitives.Polygon.{Polygon}
 use Rattle.prim_draw.proofs.PointLemmas.{LiesBetween, columns_of, rows_of}
 use Rattle.span_lanes.proofs.CellsLemmas.{row_more, row_none}
 use Rattle.prim_draw.specs.Apart.{Has, IsIn, AgreeOutside}

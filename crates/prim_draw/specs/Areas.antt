@@ -9,7 +9,7 @@ use Rattle.prim_draw.specs.Lines.{placed_ends, segment_box}
 use Rattle.prim_draw.specs.Parts.{polygon}
 use Rattle.prim_draw.specs.Rectangles.{extent_at, rectangle_box}
 use Rattle.prim_draw.specs.Triangles.{lower_half, triangle_box, upper_half}
-use Rattle.prim_draw.specs.declared.vertices.Polygon.{Polygon}
+use Rattle.prim_draw.specs.declared.primitives.Polygon.{Polygon}
 
 -- the box of w by h cells from (x, y) on, or none without a cell
 unfoldable pub moved_box : (x y w h : ℕ) → Option Box2

@@ -3,13 +3,13 @@ use Rattle.std.specs.Prelude.{ℕ, ◌≡◌, pos, ◌-ℤ◌, unsigned_abs, Som
 use Rattle.span_lanes.specs.Cells.{Stage}
 use Rattle.span_lanes.specs.ClipRect.{IsClipRect}
 use Rattle.span_lanes.specs.Shade.{row_u}
-use Rattle.span_lanes.specs.declared.texel_rows.TexelRows.{TexelRows}
+use Rattle.span_lanes.specs.declared.rows.texel_rows.TexelRows.{TexelRows}
 use Rattle.texel_lanes.specs.declared.texture.Texture.{Texture}
 use Rattle.prim_draw.specs.Boxes.{clip_row}
 use Rattle.span_lanes.specs.Pattern.{Pattern}
 use Rattle.prim_draw.specs.Rectangles.{IsExtent, IsPartOf, IsRectangleSetup, pattern_of}
 use Rattle.prim_draw.specs.Rows.{DrawsRows}
-use Rattle.prim_draw.specs.declared.clipped_rectangle.ClippedRectangle.{ClippedRectangle}
+use Rattle.prim_draw.specs.declared.rectangles.ClippedRectangle.{ClippedRectangle}
 
 -- the cells of a rectangle in a clip rectangle can be drawn in video memory of a height
 pub record CanDrawRectangle (height : ℕ) (rectangle : ClippedRectangle) : Type 0 where

@@ -9,7 +9,7 @@ use Rattle.span_lanes.specs.declared.span.Paint.TheVariants.{TexturedTri}
 use Rattle.prim_draw.specs.Boxes.{IsOnScreen, LiesIn, clip_rect_of}
 use Rattle.prim_draw.specs.Triangles.{FitsTriangle, IsDrawState}
 use Rattle.prim_draw.specs.Walks.{DrawsTriangle}
-use Rattle.prim_draw.specs.declared.clipped_triangle.ClippedTriangle.{ClippedTriangle}
+use Rattle.prim_draw.specs.declared.triangles.ClippedTriangle.{ClippedTriangle}
 use Rattle.span_lanes.specs.declared.span.DrawState.{DrawState}
 
 -- the rows of a triangle in a box can be drawn with a draw state, in video memory of a height

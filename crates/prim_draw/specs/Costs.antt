@@ -16,10 +16,10 @@ use Rattle.prim_draw.specs.Rectangles.{extent_at, pattern_of, rectangle_box, rec
 use Rattle.gp1_status.specs.Drawing.{drawing_area}
 use Rattle.prim_draw.specs.Triangles.{lower_half, row_inside, triangle_box, triangle_state, upper_half}
 use Rattle.span_lanes.specs.declared.span.DrawState.{DrawState}
-use Rattle.prim_draw.specs.declared.vertices.Polygon.{Polygon}
+use Rattle.prim_draw.specs.declared.primitives.Polygon.{Polygon}
 use Rattle.prim_draw.specs.declared.rectangles.Extent.{Extent}
 use Rattle.prim_draw.specs.declared.rectangles.RectangleSetup.{RectangleSetup}
-use Rattle.prim_draw.specs.declared.style.Style.{Style}
+use Rattle.prim_draw.specs.declared.settings.Style.{Style}
 
 -- the cost of the drawn cells of a row, which are consecutive, as one span
 abbrev pub side_by_side : Pattern → List Cell → ℕ

@@ -3,8 +3,8 @@ use Rattle.std.specs.Prelude.{ℕ, Bool, false}
 use Rattle.px_num.specs.declared.shape.Vertex.{Vertex}
 use Rattle.gp0_packets.specs.declared.packet.Packet.{Packet}
 use Rattle.gp0_packets.specs.declared.packet.Packet.TheVariants as packet
-use Rattle.prim_draw.specs.declared.vertices.Polygon.{Polygon}
-use Rattle.prim_draw.specs.declared.style.Style.{Style}
+use Rattle.prim_draw.specs.declared.primitives.Polygon.{Polygon}
+use Rattle.prim_draw.specs.declared.settings.Style.{Style}
 
 -- the style of a polygon; its flat colour is that of its first vertex, the command's
 abbrev pub polygon_style : (shaded textured semi raw : Bool) → (clut : ℕ) → Vertex → Style

@@ -16,7 +16,7 @@ use Rattle.prim_draw.specs.Settings.{brush_in, texture_in}
 use Rattle.span_lanes.specs.declared.span.ClipRect.{ClipRect}
 use Rattle.prim_draw.specs.declared.rectangles.Extent.{Extent}
 use Rattle.prim_draw.specs.declared.rectangles.RectangleSetup.{RectangleSetup}
-use Rattle.prim_draw.specs.declared.style.Style.{Style}
+use Rattle.prim_draw.specs.declared.settings.Style.{Style}
 
 -- w by h cells, whose first is moved by the drawing offset
 unfoldable pub extent_at : Registers → ℤ → ℤ → ℕ → ℕ → Extent

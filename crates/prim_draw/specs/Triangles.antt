@@ -19,8 +19,8 @@ use Rattle.span_lanes.specs.Pattern.{uniform, painted_cells}
 use Rattle.prim_draw.specs.Settings.{brush_in, placed, texture_in}
 use Rattle.span_lanes.specs.declared.span.ClipRect.{ClipRect}
 use Rattle.span_lanes.specs.declared.span.DrawState.{DrawState}
-use Rattle.prim_draw.specs.declared.vertices.Polygon.{Polygon}
-use Rattle.prim_draw.specs.declared.style.Style.{Style}
+use Rattle.prim_draw.specs.declared.primitives.Polygon.{Polygon}
+use Rattle.prim_draw.specs.declared.settings.Style.{Style}
 use Rattle.span_lanes.specs.declared.span.Run.{Run}
 
 -- the triangle draws this cell, unless it is clipped

@@ -6,22 +6,15 @@
 //! primitive samples what it has drawn itself.
 #![tactic(auto)]
 
-mod area;
 mod boxes;
-mod clipped_rectangle;
-mod clipped_triangle;
-mod flat_rectangle;
 pub mod laws;
 mod lines;
-mod point;
 mod primitives;
 mod rectangles;
 mod rows;
 mod settings;
 mod solid;
-mod style;
 mod triangles;
-mod vertices;
 
-pub use area::area_of;
+pub use boxes::area_of;
 pub use primitives::draw;

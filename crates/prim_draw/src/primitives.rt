@@ -1,20 +1,20 @@
-// What a packet draws.
+// What a packet draws, and the vertices of polygons.
 ghost use Rattle.std.specs.Prelude.{◌≡◌, ◌≤◌, ◌+◌, ◌*◌, length};
-ghost use Rattle.gp0_packets.specs.Ranges.{IsInRange, IsPolyInRange};
+ghost use Rattle.gp0_packets.specs.Ranges.{IsInRange, IsPolyInRange, IsPlace};
 ghost use Rattle.prim_draw.specs.Areas.{area_of, polygon_area};
 ghost use Rattle.prim_draw.specs.Costs.{draw_cost, polygon_cost};
 ghost use Rattle.prim_draw.specs.Draw.{drawn_packet};
-ghost use Rattle.prim_draw.specs.Triangles.{drawn_polygon};
+ghost use Rattle.prim_draw.specs.Triangles.{drawn_polygon, placed_corners};
 
-use crate::area::{area_of, joined};
+use crate::boxes::{area_of, joined};
 use crate::lines::{draw_segment, placed_ends};
 use crate::rectangles::{extent_at, rectangle_setup_in};
-use crate::style::{Style, style_of};
+use crate::settings::{Style, placed, style_of};
 use crate::triangles::draw_triangle;
-use crate::vertices::{Polygon, placed_corners};
 use gp0_packets::Packet;
 use gp1_status::Regs;
-use px_num::Box2;
+use px_num::{Box2, Vertex};
+use std::marker::Model;
 use std::sync::ledger::Ledger;
 use vram_store::{Steps, Vram};
 
@@ -106,4 +106,50 @@ pub fn draw<L: Ledger>(
         | Packet::Finish
         | Packet::Env { .. } => area_of(regs, packet),
     }
+}
+
+/// The vertices of a triangle in packet order, with the drawing offset added.
+#[derive(Drop)]
+pub(crate) struct Corners {
+    pub(crate) first: Vertex,
+    pub(crate) second: Vertex,
+    pub(crate) third: Vertex,
+}
+
+impl Model for Corners {
+    ghost use Rattle.edge_walk.specs.Triangle.{Corners, corners};
+
+    ghost Value = { Corners };
+
+    ghost view = { λ c. corners c.first c.second c.third };
+}
+
+/// Returns three vertices of a packet, with the drawing offset added.
+#[inline(always)]
+pub(crate) fn placed_corners(regs: &Regs, a: &Vertex, b: &Vertex, c: &Vertex) -> Corners
+    requires a { IsPlace a.now.x a.now.y }
+    requires b { IsPlace b.now.x b.now.y }
+    requires c { IsPlace c.now.x c.now.y }
+    ensures { result ≡ placed_corners regs.now a.now b.now c.now }
+{
+    Corners {
+        first: placed(regs, a),
+        second: placed(regs, b),
+        third: placed(regs, c),
+    }
+}
+
+/// A polygon by its vertices, without the drawing offset. With three vertices, the fourth equals the third.
+#[derive(Clone, Copy)]
+pub(crate) struct Polygon {
+    /// Whether it has four vertices. Then it is the triangles 1-2-3 and 2-3-4.
+    pub(crate) four: bool,
+    /// The first vertex.
+    pub(crate) a: Vertex,
+    /// The second.
+    pub(crate) b: Vertex,
+    /// The third.
+    pub(crate) c: Vertex,
+    /// The fourth.
+    pub(crate) d: Vertex,
 }

@@ -9,8 +9,7 @@ ghost use Rattle.prim_draw.specs.Triangles.{IsDrawState, triangle_state};
 ghost use Rattle.prim_draw.specs.Solids.{IsEven, flat_state, solid_state};
 
 use crate::rows::{draw_rows, rows_of};
-use crate::settings::brush_in;
-use crate::style::Style;
+use crate::settings::{Style, brush_in};
 use edge_walk::Tri;
 use gp1_status::Regs;
 use px_num::Box2;

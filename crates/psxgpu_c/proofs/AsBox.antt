@@ -1,20 +1,20 @@
--- The handle and the parts own what a box at the same types owns.
+-- The handles and the parts own what a box at the same types owns.
 use mir.Syntax.{impl, tnil, dnil}
 use mathlib.Core.List.{[]}
+use denote.Param.Laws.{Laws}
+use denote.RattleType.{RattleType}
 use denote.Signature.{Slot, plain}
 use Rattle.std_alloc.proofs.BoxSteps.Form.{Bx}
 use Rattle.std_heap.specs.contracts.Global as Heap
 use Rattle.std_heap.specs.contracts.GlobalAllocator.TheImpl.{ghosts, dict}
 use Rattle.std_heap.proofs.Global.TheLaws as heap
-use Rattle.event_play.specs.contracts.rig.Rig as machine
-use Rattle.event_play.proofs.rig.Rig.TheLaws as machine_laws
 use Rattle.psxgpu_c.specs.contracts.parts.Parts as Parts
-use Rattle.psxgpu_c.specs.contracts.handle.Held as Held
 
-abbrev pub E : Bx
-E = record {
-  row = machine.the_row;
-  laws = machine_laws.the_row_laws;
+-- a box of this type
+abbrev pub box_at : (row : RattleType) → Laws row → Bx
+box_at row laws = record {
+  row = row;
+  laws = laws;
   al = record {
     row = Heap.the_row;
     laws =
@@ -25,11 +25,8 @@ E = record {
   };
 }
 
-abbrev pub FromParts : Slot 0
-FromParts = plain (λ _. Parts.the_row machine.the_row Heap.the_row ghosts)
-
-abbrev pub FromHandle : Slot 0
-FromHandle = plain (λ _. Held.the_row)
+abbrev pub from_parts : RattleType → Slot 0
+from_parts row = plain (λ _. Parts.the_row row Heap.the_row ghosts)
 
 abbrev pub FromAlloc : Slot 0
 FromAlloc = plain (λ _. Heap.the_row)

@@ -1,8 +1,10 @@
 pub mod Calls
 pub mod Codes
 pub mod Handle
+pub mod MachineHandle
 pub mod Memory
 pub mod Notes
+pub mod OutputHandle
 pub mod Room
 pub mod Saved
 pub mod Shown

@@ -2,7 +2,8 @@
 ghost use Rattle.std.specs.Prelude.{◌≡◌, Option, Some, None};
 ghost use Rattle.std.specs.Option.{MatchOption};
 ghost use Rattle.std.specs.Coded.{coded_option};
-ghost use Rattle.psxgpu_c.specs.Handle.{row, holds, IsOpen, mark_of};
+ghost use Rattle.psxgpu_c.specs.Handle.{holds, IsOpen, mark_of};
+ghost use Rattle.psxgpu_c.specs.MachineHandle.{machine_row};
 
 use crate::parts::Parts;
 use event_play::Rig;
@@ -17,11 +18,11 @@ use std::ptr::null_mut;
 pub struct Held {
     at: *mut u8,
     alloc: Global,
-    pub ghost value: { Option row.Denot } by { coded_option row.coded },
+    pub ghost value: { Option machine_row.Denot } by { coded_option machine_row.coded },
 }
 
 impl Model for Held {
-    ghost also_owns = { λ h. holds h.alloc h.at h.value };
+    ghost also_owns = { λ h. holds machine_row h.alloc h.at h.value };
 }
 
 impl Held {

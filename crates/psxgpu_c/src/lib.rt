@@ -5,9 +5,11 @@
 //! handle has none. After a failure the machine is unchanged.
 #![tactic(auto)]
 
+mod count_sink;
 mod ended;
 mod fill;
 mod front;
+mod growing_sink;
 mod handle;
 mod in_memory;
 mod looks;
@@ -15,6 +17,9 @@ mod machine;
 mod memory;
 mod note;
 mod notes;
+mod output;
+mod output_handle;
+mod outputs;
 mod parts;
 mod pictures;
 mod ports;
@@ -22,6 +27,7 @@ mod refusal;
 mod rgba;
 mod room_sink;
 mod run;
+mod sent;
 mod slice_source;
 mod snapshots;
 mod state;
@@ -32,3 +38,4 @@ mod words;
 pub use ended::Ended;
 pub use handle::Psxgpu;
 pub use note::ItemNote;
+pub use output_handle::PsxgpuOutput;

@@ -13,6 +13,14 @@ use crate::refusal::Refusal;
 use gpu_capture::Event;
 use std::alloc::Global;
 
+/// The three registers of a DMA channel, as a start takes them.
+#[derive(Clone, Copy)]
+struct DmaRegisters {
+    madr: u32,
+    bcr: u32,
+    chcr: u32,
+}
+
 /// Writes `words` to main memory from byte address `address` on, one event per word. If they are not all in main
 /// memory, or `address` is not a multiple of 4, writes nothing and returns the code of `BadAddress`.
 #[unsafe(no_mangle)]
@@ -45,7 +53,8 @@ pub extern "C" fn psxgpu_dma(
         (λ answer. ended.new ≡ told_of answer) }
     ensures code { result ≡ ended.new.code }
 {
-    *ended = told_of(start(alloc, gpu, channel_named(channel), madr, bcr, chcr));
+    let registers = DmaRegisters { madr, bcr, chcr };
+    *ended = told_of(start(alloc, gpu, channel_named(channel), registers));
     ended.code
 }
 
@@ -65,20 +74,18 @@ fn start(
     alloc: Global,
     gpu: &mut Psxgpu,
     channel: Option<u8>,
-    madr: u32,
-    bcr: u32,
-    chcr: u32,
+    registers: DmaRegisters,
 ) -> Result<Option<u32>, Refusal>
-    ensures { Starts channel (λ c. Dma c madr bcr chcr) gpu.old.held.value gpu.new.held.value
-        (λ answer. answer ≡ result) }
+    ensures { Starts channel (λ c. Dma c registers.madr registers.bcr registers.chcr)
+        gpu.old.held.value gpu.new.held.value (λ answer. answer ≡ result) }
 {
     match channel {
         Some(channel) => {
             let event = Event::Dma {
                 channel,
-                madr,
-                bcr,
-                chcr,
+                madr: registers.madr,
+                bcr: registers.bcr,
+                chcr: registers.chcr,
             };
             play_held(alloc, gpu, &event)
         }

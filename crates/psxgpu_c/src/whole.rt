@@ -1,10 +1,10 @@
 // Plays a whole capture or snapshot with a machine of its own.
 ghost use Rattle.std.specs.Prelude.{◌≡◌};
-ghost use Rattle.psxgpu_c.specs.Whole.{PlaysMode, at_end, at_ending, cell_in, mode_named};
+ghost use Rattle.psxgpu_c.specs.Whole.{CountsMode, PlaysMode, at_end, at_ending, cell_in, mode_named};
 
 use crate::ended::{Ended, at_place, numbers, of_fault, of_refusal, of_stop};
 use crate::refusal::Refusal;
-use crate::run::play_over;
+use crate::run::{play_counted, play_over};
 use event_play::{Ending, FrameTrigger, Mode};
 use gpu_snapshot::AnyEnding;
 use px_num::Cell;
@@ -41,8 +41,37 @@ fn play_mode(alloc: Global, mode: Option<Mode>, capture: &[u8], out: &mut [u8]) 
     }
 }
 
-// Returns the mode with this number, if there is one.
-fn mode_of(number: u32, cell: u32) -> Option<Mode>
+/// Plays a capture or a snapshot as `psxgpu_play` does and counts the bytes of the output. Sets `ended` in every case
+/// and returns its code: `written` is their number. An unknown mode is refused with `BadMode`.
+#[unsafe(no_mangle)]
+pub extern "C" fn psxgpu_play_size(
+    alloc: Global,
+    mode: u32,
+    cell: u32,
+    capture: &[u8],
+    ended: &mut Ended,
+) -> u32
+    ensures counted { CountsMode (mode_named mode cell) capture.now ended.new }
+    ensures code { result ≡ ended.new.code }
+{
+    *ended = count_mode(alloc, mode_of(mode, cell), capture);
+    ended.code
+}
+
+fn count_mode(alloc: Global, mode: Option<Mode>, capture: &[u8]) -> Ended
+    ensures { CountsMode mode capture.now result }
+{
+    match mode {
+        Some(mode) => match play_counted(alloc, mode, capture) {
+            Some(told) => told,
+            None => of_refusal(Refusal::NoMemory),
+        },
+        None => of_refusal(Refusal::BadMode),
+    }
+}
+
+/// Returns the mode with this number, if there is one.
+pub(crate) fn mode_of(number: u32, cell: u32) -> Option<Mode>
     ensures { result ≡ mode_named number cell }
 {
     let modes = [

@@ -6,8 +6,8 @@ use Rattle.edge_walk.specs.declared.plane.Plane.{Plane}
 use Rattle.edge_walk.specs.Triangle.{Corners}
 use Rattle.texel_lanes.specs.Texels.{AreCoordinates}
 use Rattle.span_lanes.specs.declared.span.Chunk.{Chunk}
-use Rattle.span_lanes.specs.declared.attribute_ramps.ColorRamps.{ColorRamps}
-use Rattle.span_lanes.specs.declared.attribute_ramps.CoordRamps.{CoordRamps}
+use Rattle.span_lanes.specs.declared.attributes.ramps.ColorRamps.{ColorRamps}
+use Rattle.span_lanes.specs.declared.attributes.ramps.CoordRamps.{CoordRamps}
 use Rattle.span_lanes.specs.declared.span.Paint.{Paint}
 use Rattle.span_lanes.specs.declared.span.Paint.TheVariants.{Flat, Shaded, TexturedTri, TexturedRow}
 use Rattle.span_lanes.specs.Draws.{IsChunk}

@@ -6,7 +6,7 @@ use Rattle.std.specs.Prelude.{IfSome}
 use Rattle.texture_page.specs.Page.{clut_place}
 use Rattle.vram_store.specs.Chunk.{AgreesApart}
 use Rattle.texel_lanes.specs.declared.texture.Texture.{Texture}
-use Rattle.span_lanes.specs.declared.modulated.ColoredClut.{ColoredClut}
+use Rattle.span_lanes.specs.declared.clut.modulated.ColoredClut.{ColoredClut}
 use Rattle.overlap_guard.specs.Hazard.{HasStripHazard}
 use Rattle.texel_lanes.specs.Texture.{at_cell}
 use Rattle.span_lanes.specs.Guard.{clut_strip, palette_of, target, HasHazard}

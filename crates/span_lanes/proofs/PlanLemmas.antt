@@ -5,7 +5,7 @@ use Rattle.overlap_guard.specs.Hazard.{has_texture_hazard}
 use Rattle.texel_lanes.specs.declared.texture.Texture.{Texture}
 use Rattle.span_lanes.specs.declared.span.Paint.{Paint}
 use Rattle.span_lanes.specs.declared.span.Chunk.{Chunk}
-use Rattle.span_lanes.specs.declared.tex_coords.TexCoords.{TexCoords}
+use Rattle.span_lanes.specs.declared.attributes.tex_coords.TexCoords.{TexCoords}
 use Rattle.texel_lanes.specs.Texture.{texel, texel_steps}
 use Rattle.span_lanes.specs.Shade.{texture_of}
 use Rattle.span_lanes.specs.Cost.{chunk_cost}

@@ -4,7 +4,7 @@ use Rattle.texel_lanes.proofs.ContiguousLemmas.{open_window}
 use Rattle.span_lanes.specs.ClipRect.{IsInClip}
 use Rattle.span_lanes.specs.HazardFree.{AreTexelsApart}
 use Rattle.span_lanes.specs.TexelRows.{texel_row, texel_span}
-use Rattle.span_lanes.specs.declared.texel_rows.TexelRows.{TexelRows}
+use Rattle.span_lanes.specs.declared.rows.texel_rows.TexelRows.{TexelRows}
 use Rattle.span_lanes.proofs.TexelRunLemmas.{rising}
 
 -- a whole row of the clip rectangle is in it

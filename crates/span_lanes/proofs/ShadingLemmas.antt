@@ -2,9 +2,9 @@
 use Rattle.std.proofs.Common.{◌≡◌, ◌≤◌, ℕ, ◌+◌, IsTrue, pos, arith}
 use Rattle.edge_walk.specs.Triangle.{Corners, is_inside}
 use Rattle.edge_walk.specs.declared.plane.Plane.{Plane}
-use Rattle.span_lanes.specs.declared.shading.RowColors.{RowColors}
-use Rattle.span_lanes.specs.declared.shading.RowColors.TheVariants.{One}
-use Rattle.span_lanes.specs.declared.shading.Shading.TheVariants.{OneColor, Planes}
+use Rattle.span_lanes.specs.declared.attributes.shading.RowColors.{RowColors}
+use Rattle.span_lanes.specs.declared.attributes.shading.RowColors.TheVariants.{One}
+use Rattle.span_lanes.specs.declared.attributes.shading.Shading.TheVariants.{OneColor, Planes}
 use Rattle.span_lanes.specs.declared.span.Paint.{Paint}
 use Rattle.span_lanes.specs.declared.span.Paint.TheVariants.{Flat, Shaded, TexturedTri, TexturedRow}
 use Rattle.span_lanes.specs.Shade.{HasInside, AreInside}

@@ -11,8 +11,8 @@ use Rattle.span_lanes.specs.TexelRows.{rows_pattern, texel_row, texel_span}
 use Rattle.span_lanes.specs.TexelRun.{IsTexelRun}
 use Rattle.span_lanes.specs.declared.span.Run.{Run}
 use Rattle.span_lanes.specs.declared.span.Span.{Span}
-use Rattle.span_lanes.specs.declared.texel_rows.TexelRows.{TexelRows}
-use Rattle.span_lanes.specs.declared.texel_run.TexelRun.{TexelRun}
+use Rattle.span_lanes.specs.declared.rows.texel_rows.TexelRows.{TexelRows}
+use Rattle.span_lanes.specs.declared.texels.texel_run.TexelRun.{TexelRun}
 use Rattle.span_lanes.proofs.ChunkDrawLemmas.{draws_cells}
 
 pub row_is : (rows : TexelRows) (y v : ℕ) (run : Run) → IsWholeRow rows.clip_rect y run → v ≡ texel_row rows y

@@ -7,7 +7,7 @@ use Rattle.edge_walk.specs.Line.{line_value}
 use Rattle.edge_walk.specs.Plane.{IsPlane}
 use Rattle.edge_walk.specs.declared.plane.Plane.{Plane}
 use Rattle.edge_walk.specs.Triangle.{Corners, is_inside}
-use Rattle.span_lanes.specs.declared.texel_run.TexelRun.{TexelRun}
+use Rattle.span_lanes.specs.declared.texels.texel_run.TexelRun.{TexelRun}
 use Rattle.texel_lanes.specs.declared.texture.Texture.{Texture}
 use Rattle.span_lanes.specs.declared.span.Paint.TheVariants.{TexturedRow, TexturedTri}
 use Rattle.span_lanes.specs.declared.span.Span.{Span}

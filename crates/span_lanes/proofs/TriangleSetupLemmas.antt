@@ -1,7 +1,7 @@
 -- Rows of textured triangles.
 use Rattle.std.proofs.Common.{ap, ℕ, List}
 use Rattle.span_lanes.specs.declared.span.ClipRect.{ClipRect}
-use Rattle.span_lanes.specs.declared.triangle_setup.TriangleSetup.{TriangleSetup}
+use Rattle.span_lanes.specs.declared.attributes.triangle_setup.TriangleSetup.{TriangleSetup}
 use Rattle.span_lanes.specs.declared.span.Span.{Span}
 use Rattle.span_lanes.specs.ClipRect.{IsInClip}
 use Rattle.span_lanes.proofs.ShadingLemmas.{one_hues}

@@ -1,9 +1,9 @@
 -- The attributes of a triangle with their ramps (our own rule).
 use Rattle.edge_walk.specs.Plane.{IsPlane}
 use Rattle.edge_walk.specs.Triangle.{Corners}
-use Rattle.span_lanes.specs.declared.attribute_ramps.AttributeRamps.{AttributeRamps}
-use Rattle.span_lanes.specs.declared.attribute_ramps.ColorRamps.{ColorRamps}
-use Rattle.span_lanes.specs.declared.attribute_ramps.CoordRamps.{CoordRamps}
+use Rattle.span_lanes.specs.declared.attributes.ramps.AttributeRamps.{AttributeRamps}
+use Rattle.span_lanes.specs.declared.attributes.ramps.ColorRamps.{ColorRamps}
+use Rattle.span_lanes.specs.declared.attributes.ramps.CoordRamps.{CoordRamps}
 use Rattle.span_lanes.specs.declared.span.Paint.{Paint}
 use Rattle.span_lanes.specs.declared.span.Paint.TheVariants.{Shaded, TexturedTri}
 

@@ -5,8 +5,8 @@ use Rattle.texture_page.specs.Page.{clut_place}
 use Rattle.span_lanes.specs.declared.span.Chunk.{Chunk}
 use Rattle.span_lanes.specs.declared.span.Span.{Span}
 use Rattle.texel_lanes.specs.declared.texture.Texture.{Texture}
-use Rattle.span_lanes.specs.declared.modulated.ColoredClut.{ColoredClut}
-use Rattle.span_lanes.specs.declared.shading.RowColors.TheVariants.{One}
+use Rattle.span_lanes.specs.declared.clut.modulated.ColoredClut.{ColoredClut}
+use Rattle.span_lanes.specs.declared.attributes.shading.RowColors.TheVariants.{One}
 use Rattle.span_lanes.specs.Draws.{CanSample}
 use Rattle.span_lanes.specs.Guard.{IsHazardFree}
 use Rattle.span_lanes.specs.RowColors.{AreRowColors}

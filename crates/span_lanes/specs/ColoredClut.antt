@@ -5,8 +5,8 @@ use Rattle.texture_page.specs.Page.{clut_place}
 use Rattle.texel_lanes.specs.declared.texture.Texture.{Texture}
 use Rattle.span_lanes.specs.declared.span.Paint.{Paint}
 use Rattle.span_lanes.specs.declared.span.Span.{Span}
-use Rattle.span_lanes.specs.declared.modulated.ColoredClut.{ColoredClut}
-use Rattle.texel_lanes.specs.declared.table.Table.{Table}
+use Rattle.span_lanes.specs.declared.clut.modulated.ColoredClut.{ColoredClut}
+use Rattle.texel_lanes.specs.declared.clut.Table.{Table}
 use Rattle.texel_lanes.specs.Texture.{at_cell}
 use Rattle.span_lanes.specs.Guard.{IsHazardFree}
 use Rattle.span_lanes.specs.Shade.{modulated_texel, texture_of}

@@ -1,8 +1,9 @@
 -- Paints that are set up for drawing.
 use Rattle.std.specs.Prelude.{ℕ, ◌≡◌, None}
-use Rattle.span_lanes.specs.declared.row_drawer.PaintSetup.{PaintSetup}
-use Rattle.span_lanes.specs.declared.row_drawer.PaintSetup.TheVariants.{Solid, One, Gouraud, Tri, ContiguousTri, Row}
-use Rattle.span_lanes.specs.declared.shading.Shading.TheVariants.{OneColor}
+use Rattle.span_lanes.specs.declared.rows.row_drawer.PaintSetup.{PaintSetup}
+use Rattle.span_lanes.specs.declared.rows.row_drawer.PaintSetup.TheVariants.{Solid, One, Gouraud, Tri}
+use Rattle.span_lanes.specs.declared.rows.row_drawer.PaintSetup.TheVariants.{ContiguousTri, Row}
+use Rattle.span_lanes.specs.declared.attributes.shading.Shading.TheVariants.{OneColor}
 use Rattle.span_lanes.specs.AttributeRamps.{AreColorsOf}
 use Rattle.span_lanes.specs.Lanes.{IsSolid}
 use Rattle.span_lanes.specs.Paints.{row_paint}

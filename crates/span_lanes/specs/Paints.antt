@@ -1,7 +1,7 @@
 -- Paints, and their colour and texel at a cell.
 use Rattle.std.specs.Prelude.{ℕ, ◌+◌}
 use Rattle.span_lanes.specs.declared.span.Chunk.{Chunk}
-use Rattle.span_lanes.specs.declared.texel_rows.TexelRow.{TexelRow}
+use Rattle.span_lanes.specs.declared.rows.texel_rows.TexelRow.{TexelRow}
 use Rattle.span_lanes.specs.declared.span.Paint.{Paint}
 use Rattle.span_lanes.specs.declared.span.Paint.TheVariants.{Flat, Shaded, TexturedTri, TexturedRow}
 use Rattle.span_lanes.specs.Shade.{row_u, attribute_in, color_in}

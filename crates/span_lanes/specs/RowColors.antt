@@ -3,8 +3,8 @@ use Rattle.std.specs.Prelude.{ℕ, ◌≡◌, ◌+◌, ◌*◌, ◌<◌, pos, Is
 use Rattle.edge_walk.specs.Line.{line_value}
 use Rattle.edge_walk.specs.Triangle.{Corners, is_inside}
 use Rattle.edge_walk.specs.declared.line.RowLine.{RowLine}
-use Rattle.span_lanes.specs.declared.shading.RowColors.{RowColors}
-use Rattle.span_lanes.specs.declared.shading.RowColors.TheVariants.{One, Lines}
+use Rattle.span_lanes.specs.declared.attributes.shading.RowColors.{RowColors}
+use Rattle.span_lanes.specs.declared.attributes.shading.RowColors.TheVariants.{One, Lines}
 use Rattle.span_lanes.specs.declared.span.Paint.{Paint}
 use Rattle.span_lanes.specs.Paints.{paint_color}
 use Rattle.span_lanes.specs.Shade.{attribute_in, color_in}

@@ -1,9 +1,9 @@
 -- The values that all chunks of a textured span share.
 use Rattle.std.specs.Prelude.{ℕ, ◌≡◌, ◌+◌, ◌<◌, ◌&&◌, not, IsTrue, List, Some, length, slice_index}
 use Rattle.span_lanes.specs.declared.span.Chunk.{Chunk}
-use Rattle.span_lanes.specs.declared.modulated.ModulatedTexels.{ModulatedTexels}
-use Rattle.span_lanes.specs.declared.guarded.RowSetup.{RowSetup}
-use Rattle.span_lanes.specs.declared.shading.RowShading.{RowShading}
+use Rattle.span_lanes.specs.declared.clut.modulated.ModulatedTexels.{ModulatedTexels}
+use Rattle.span_lanes.specs.declared.rows.by_coords.RowSetup.{RowSetup}
+use Rattle.span_lanes.specs.declared.attributes.shading.RowShading.{RowShading}
 use Rattle.texel_lanes.specs.declared.texture.Texture.{Texture}
 use Rattle.span_lanes.specs.declared.span.Span.{Span}
 use Rattle.texel_lanes.specs.Texture.{texel}

@@ -2,14 +2,14 @@
 use Rattle.std.specs.Prelude.{ℕ, Option, None, IfSome, ◌≡◌, ◌≤◌, ◌+◌, length, pos, IsTrue}
 use Rattle.edge_walk.specs.Plane.{IsPlane}
 use Rattle.edge_walk.specs.Triangle.{Corners, is_inside}
-use Rattle.span_lanes.specs.declared.tex_coords.CoordPlanes.{CoordPlanes}
+use Rattle.span_lanes.specs.declared.attributes.tex_coords.CoordPlanes.{CoordPlanes}
 use Rattle.span_lanes.specs.declared.span.Brush.{Brush}
 use Rattle.span_lanes.specs.declared.span.DrawState.{DrawState}
 use Rattle.span_lanes.specs.declared.span.Paint.{Paint}
 use Rattle.span_lanes.specs.declared.span.Paint.TheVariants.{Flat, Shaded, TexturedTri, TexturedRow}
 use Rattle.span_lanes.specs.declared.span.Span.{Span}
-use Rattle.span_lanes.specs.declared.shading.Shading.{Shading}
-use Rattle.span_lanes.specs.declared.shading.Shading.TheVariants.{OneColor, Planes}
+use Rattle.span_lanes.specs.declared.attributes.shading.Shading.{Shading}
+use Rattle.span_lanes.specs.declared.attributes.shading.Shading.TheVariants.{OneColor, Planes}
 use Rattle.span_lanes.specs.Cells.{Stage, drawn_cells, row_cells}
 use Rattle.span_lanes.specs.Cost.{span_cost}
 use Rattle.span_lanes.specs.Lanes.{IsSolid}

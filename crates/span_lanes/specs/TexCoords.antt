@@ -3,9 +3,9 @@ use Rattle.std.specs.Prelude.{ℕ, List, ◌≡◌, ◌+◌, ◌<◌, pos, IsTru
 use Rattle.edge_walk.specs.Line.{line_value}
 use Rattle.edge_walk.specs.Triangle.{Corners, is_inside}
 use Rattle.span_lanes.specs.declared.span.Chunk.{Chunk}
-use Rattle.span_lanes.specs.declared.tex_coords.CoordAlongRow.{CoordAlongRow}
-use Rattle.span_lanes.specs.declared.tex_coords.CoordAlongRow.TheVariants.{Line, Row, Same}
-use Rattle.span_lanes.specs.declared.tex_coords.TexCoords.{TexCoords}
+use Rattle.span_lanes.specs.declared.attributes.tex_coords.CoordAlongRow.{CoordAlongRow}
+use Rattle.span_lanes.specs.declared.attributes.tex_coords.CoordAlongRow.TheVariants.{Line, Row, Same}
+use Rattle.span_lanes.specs.declared.attributes.tex_coords.TexCoords.{TexCoords}
 use Rattle.span_lanes.specs.declared.span.Paint.{Paint}
 use Rattle.texel_lanes.specs.declared.texture.Texture.{Texture}
 use Rattle.span_lanes.specs.Draws.{CanSample, IsChunk}

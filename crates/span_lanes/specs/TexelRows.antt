@@ -7,13 +7,13 @@ use Rattle.span_lanes.specs.Guard.{IsHazardFree}
 use Rattle.span_lanes.specs.SpanDrawer.{state_span}
 use Rattle.span_lanes.specs.declared.span.DrawState.{DrawState}
 use Rattle.span_lanes.specs.declared.span.Paint.TheVariants.{TexturedRow}
-use Rattle.span_lanes.specs.declared.texel_rows.TexelRow.{TexelRow}
+use Rattle.span_lanes.specs.declared.rows.texel_rows.TexelRow.{TexelRow}
 use Rattle.span_lanes.specs.declared.span.ClipRect.{ClipRect}
 use Rattle.span_lanes.specs.declared.span.Run.{Run}
 use Rattle.span_lanes.specs.declared.span.Span.{Span}
 use Rattle.span_lanes.specs.Pattern.{Pattern}
 use Rattle.span_lanes.specs.Shade.{IsSpan, row_u}
-use Rattle.span_lanes.specs.declared.texel_rows.TexelRows.{TexelRows}
+use Rattle.span_lanes.specs.declared.rows.texel_rows.TexelRows.{TexelRows}
 
 -- the draw state of row v of the page
 abbrev pub texel_state : TexelRows → (v : ℕ) → DrawState

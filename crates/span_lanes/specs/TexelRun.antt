@@ -1,7 +1,7 @@
 -- Contiguous texels in a row of video memory.
 use Rattle.std.specs.Prelude.{ℕ, ◌≡◌, ◌≤◌, ◌<◌, ◌+◌, ◌/◌}
 use Rattle.texture_page.specs.Page.{windowed}
-use Rattle.span_lanes.specs.declared.texel_run.TexelRun.{TexelRun}
+use Rattle.span_lanes.specs.declared.texels.texel_run.TexelRun.{TexelRun}
 use Rattle.texel_lanes.specs.declared.texture.Texture.{Texture}
 use Rattle.span_lanes.specs.declared.span.Span.{Span}
 use Rattle.span_lanes.specs.Paints.{paint_u, paint_v}

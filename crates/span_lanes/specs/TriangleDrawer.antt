@@ -5,12 +5,12 @@ use Rattle.edge_walk.specs.Triangle.{Corners}
 use Rattle.texel_lanes.specs.Texture.{IsTexture}
 use Rattle.texel_lanes.specs.declared.texture.Texture.{Texture}
 use Rattle.span_lanes.specs.declared.span.ClipRect.{ClipRect}
-use Rattle.span_lanes.specs.declared.triangle_drawer.RowMethod.{RowMethod}
-use Rattle.span_lanes.specs.declared.triangle_drawer.RowMethod.TheVariants.{CachedClut, Contiguous, FlatTexelsByCoords}
-use Rattle.span_lanes.specs.declared.triangle_drawer.RowMethod.TheVariants.{GouraudTexels}
-use Rattle.span_lanes.specs.declared.attribute_ramps.AttributeRamps.{AttributeRamps}
-use Rattle.span_lanes.specs.declared.attribute_ramps.CoordRamps.{CoordRamps}
-use Rattle.span_lanes.specs.declared.triangle_setup.TriangleSetup.{TriangleSetup}
+use Rattle.span_lanes.specs.declared.rows.triangle.RowMethod.{RowMethod}
+use Rattle.span_lanes.specs.declared.rows.triangle.RowMethod.TheVariants.{CachedClut, Contiguous, FlatTexelsByCoords}
+use Rattle.span_lanes.specs.declared.rows.triangle.RowMethod.TheVariants.{GouraudTexels}
+use Rattle.span_lanes.specs.declared.attributes.ramps.AttributeRamps.{AttributeRamps}
+use Rattle.span_lanes.specs.declared.attributes.ramps.CoordRamps.{CoordRamps}
+use Rattle.span_lanes.specs.declared.attributes.triangle_setup.TriangleSetup.{TriangleSetup}
 use Rattle.span_lanes.specs.declared.span.Brush.{Brush}
 use Rattle.span_lanes.specs.declared.span.DrawState.{DrawState}
 use Rattle.span_lanes.specs.declared.span.Paint.{Paint}
@@ -18,7 +18,7 @@ use Rattle.span_lanes.specs.declared.span.Paint.TheVariants.{TexturedTri}
 use Rattle.span_lanes.specs.declared.span.Span.{Span}
 use Rattle.span_lanes.specs.Draws.{CanDraw}
 use Rattle.span_lanes.specs.Guard.{IsHazardFree}
-use Rattle.span_lanes.specs.declared.shading.Shading.TheVariants.{OneColor}
+use Rattle.span_lanes.specs.declared.attributes.shading.Shading.TheVariants.{OneColor}
 use Rattle.span_lanes.specs.ClipRect.{IsClipHazardFree}
 use Rattle.span_lanes.specs.SpanDrawer.{IsShadingFor, IsShadingOf}
 use Rattle.span_lanes.specs.AttributeRamps.{AreCoordRampsOf, AreAttributeRampsOf}

@@ -2,7 +2,7 @@
 use Rattle.std.specs.Prelude.{ℕ, ◌≡◌, List}
 use Rattle.edge_walk.specs.Triangle.{Corners}
 use Rattle.texel_lanes.specs.declared.texture.Texture.{Texture}
-use Rattle.span_lanes.specs.declared.triangle_setup.TriangleSetup.{TriangleSetup}
+use Rattle.span_lanes.specs.declared.attributes.triangle_setup.TriangleSetup.{TriangleSetup}
 use Rattle.span_lanes.specs.declared.span.Brush.{Brush}
 use Rattle.span_lanes.specs.declared.span.Paint.TheVariants.{TexturedTri}
 use Rattle.span_lanes.specs.declared.span.Span.{Span}

@@ -1,8 +1,8 @@
 -- Spans without a texture, and their colours.
 use Rattle.std.specs.Prelude.{ℕ, ℤ, ◌≡◌, ◌+◌, ◌<◌, ◌^◌, List, None, length, slice_index}
 use Rattle.px_num.specs.Lanes.{EachLane}
-use Rattle.span_lanes.specs.declared.attribute_ramps.ColorRamps.{ColorRamps}
-use Rattle.span_lanes.specs.declared.shading.RowColors.TheVariants.{One}
+use Rattle.span_lanes.specs.declared.attributes.ramps.ColorRamps.{ColorRamps}
+use Rattle.span_lanes.specs.declared.attributes.shading.RowColors.TheVariants.{One}
 use Rattle.span_lanes.specs.declared.span.Chunk.{Chunk}
 use Rattle.span_lanes.specs.declared.span.Span.{Span}
 use Rattle.span_lanes.specs.AttributeRamps.{AreColorsOf}

@@ -4,7 +4,7 @@ use Rattle.std.specs.Int.Bits.{and_zero_r, or_zero_r}
 use Rattle.std.proofs.lemmas.Bool.Decides.{nat_tests}
 use Rattle.std.proofs.lemmas.Nat.{and_mask}
 use Rattle.texture_page.specs.Page.{texel_place, column, windowed, index_in}
-use Rattle.texel_lanes.specs.declared.coordinates.Coordinates.{Coordinates}
+use Rattle.texel_lanes.specs.declared.texture.Coordinates.{Coordinates}
 use Rattle.texel_lanes.specs.declared.texture.Texture.{Texture}
 use Rattle.texel_lanes.specs.Texture.{at_cell, texel}
 use Rattle.texel_lanes.specs.Texels.{AreBeside, lane_place}

@@ -2,7 +2,7 @@
 use Rattle.std.specs.Prelude.{ℕ, ◌+◌, ◌*◌, List, map, slice_index}
 use Rattle.std.specs.List.{range_with_len}
 use Rattle.px_num.specs.Lanes.{AreBytes}
-use Rattle.texel_lanes.specs.declared.table.Table.{Table}
+use Rattle.texel_lanes.specs.declared.clut.Table.{Table}
 
 -- both fields are sixteen bytes
 pub record IsTable (table : Table) : Type 0 where

@@ -3,7 +3,7 @@ use Rattle.std.specs.Prelude.{ℕ, ◌≡◌, ◌+◌, ◌<◌, ◌≤◌, List,
 use Rattle.px_num.specs.Lanes.{EachLane, AreBytes}
 use Rattle.px_num.specs.declared.shape.Cell.{Cell}
 use Rattle.texture_page.specs.Page.{texel_place, windowed, column, index_in}
-use Rattle.texel_lanes.specs.declared.coordinates.Coordinates.{Coordinates}
+use Rattle.texel_lanes.specs.declared.texture.Coordinates.{Coordinates}
 use Rattle.texel_lanes.specs.declared.texture.Texture.{Texture}
 use Rattle.texel_lanes.specs.Texture.{at_cell, texel}
 

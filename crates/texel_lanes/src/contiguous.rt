@@ -7,12 +7,10 @@ ghost use Rattle.texel_lanes.specs.Texture.{HasPage, IsTexture};
 ghost use Rattle.texel_lanes.specs.Texels.{AreBeside, AreCoordinates, AreIndexes, AreTexels};
 
 use crate::Texture;
-use crate::coordinates::Coordinates;
-use crate::gather::Gather;
-use crate::halfwords::halfwords_of;
-use crate::nibbles::{nibbles, nibbles_from};
-use crate::octets::octets_from;
+use crate::gather::{Gather, halfwords_of};
+use crate::indexes::{nibbles, nibbles_from, octets_from};
 use crate::texel_cells::texel_cells_of;
+use crate::texture::Coordinates;
 use px_num::halves::HALF;
 use px_num::lanes::{add, ramp, same, splat};
 use std::simd::prelude::*;

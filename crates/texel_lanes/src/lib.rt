@@ -9,23 +9,15 @@
 
 mod clut;
 mod contiguous;
-mod coordinates;
 mod gather;
-mod halfwords;
-mod nibbles;
-mod octets;
+mod indexes;
 mod read;
-mod table;
-mod texel;
 mod texel_cells;
 mod texture;
 
-pub use clut::{clut_row, gather_entries, sixteen_entries};
+pub use clut::{Table, clut_row, entries_at, gather_entries, sixteen_entries, table_of};
 pub use contiguous::{column_of, indexes_of, sixteen_indexes, sixteen_octets};
-pub use coordinates::Coordinates;
 pub use gather::{AllAtOnce, Gather, HalfAtOnce, OneByOne};
 pub use read::{read_few, read_texels};
-pub use table::{Table, entries_at, table_of};
-pub use texel::read_texel;
 pub use texel_cells::{TexelCells, texel_cells_of};
-pub use texture::Texture;
+pub use texture::{Coordinates, Texture, read_texel};

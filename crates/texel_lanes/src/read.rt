@@ -5,14 +5,12 @@ ghost use Rattle.texel_lanes.specs.Texture.{HasPage, IsTexture, texel_steps};
 ghost use Rattle.texel_lanes.specs.Texels.{AreCoordinates, AreTexels};
 
 use crate::Texture;
-use crate::clut::{gather_entries, sixteen_entries};
+use crate::clut::{entries_at, gather_entries, sixteen_entries, table_of};
 use crate::contiguous::{are_contiguous, indexes_of, read_contiguous};
-use crate::coordinates::Coordinates;
-use crate::gather::{Gather, HalfAtOnce};
-use crate::halfwords::halfwords_of;
-use crate::octets::octets;
-use crate::table::{entries_at, table_of};
+use crate::gather::{Gather, HalfAtOnce, halfwords_of};
+use crate::indexes::octets;
 use crate::texel_cells::texel_cells_of;
+use crate::texture::Coordinates;
 use px_num::halves::{HALF, first_lanes, wanted_lanes};
 use px_num::lanes::splat;
 use std::simd::prelude::*;

@@ -6,7 +6,7 @@ ghost use Rattle.texel_lanes.specs.Texture.{IsTexture};
 ghost use Rattle.texel_lanes.specs.Texels.{lane_place, AreAcross, AreCoordinates};
 
 use crate::Texture;
-use crate::coordinates::Coordinates;
+use crate::texture::Coordinates;
 use px_num::lanes::{add, and, low_bits, or, shifted_down, splat};
 use std::simd::prelude::*;
 use texture_page::Page;

@@ -1,6 +1,7 @@
 //! The machine: what a call returns, what is refused, and that a refused call changes nothing.
 use psxgpu::capture::{Event, Fault, Reader, Record, Start, Writer};
-use psxgpu::{frames, play, play_into, Error, FrameEnd, Gpu, Mode, SAVE_ROOM};
+use psxgpu::{frames, play, play_into, play_size, play_to, Error, FrameEnd, Gpu, Mode, PlayError, SAVE_ROOM};
+use std::io::{self, Write};
 
 const FILL: [u32; 3] = [0x0200_00FF, 0, 0x0010_0010];
 const LIST: u32 = 0x0100_0401;
@@ -170,8 +171,67 @@ fn a_damaged_film_has_the_frames_before() {
     assert_eq!(frames(b"", FrameEnd::Mark).unwrap().count(), 1);
 }
 
+/// A writer that takes at most 1000 bytes of a write, and fails after `most`.
+struct Narrow {
+    taken: Vec<u8>,
+    most: usize,
+}
+
+impl Write for Narrow {
+    fn write(&mut self, bytes: &[u8]) -> io::Result<usize> {
+        let count = bytes.len().min(1000).min(self.most - self.taken.len());
+        self.taken.extend(&bytes[..count]);
+        Ok(count)
+    }
+
+    fn flush(&mut self) -> io::Result<()> {
+        Ok(())
+    }
+}
+
 #[test]
-fn output_that_is_longer_than_the_first_buffer() {
+fn a_size_and_a_writer_have_the_output() {
+    let film = film();
+    for mode in [Mode::Play, Mode::Vram, Mode::Shot, Mode::Report, Mode::Frames, Mode::SumsMarks, Mode::Pixel(9, 9)] {
+        let output = play(&film, mode).unwrap();
+        let mut narrow = Narrow { taken: Vec::new(), most: usize::MAX };
+        assert_eq!(play_size(&film, mode), (output.len(), Ok(())));
+        assert_eq!(play_to(&film, mode, &mut narrow).unwrap(), output.len());
+        assert!(narrow.taken == output, "{:?}", mode);
+    }
+}
+
+#[test]
+fn a_writer_that_fails_has_the_bytes_before() {
+    let film = film();
+    let output = play(&film, Mode::Frames).unwrap();
+    for most in [0, 1, 70_000, output.len() - 1] {
+        let mut narrow = Narrow { taken: Vec::new(), most };
+        match play_to(&film, Mode::Frames, &mut narrow) {
+            Err(PlayError::Io(error)) => assert_eq!(error.kind(), io::ErrorKind::WriteZero),
+            other => panic!("{:?}", other),
+        }
+        assert!(narrow.taken == output[..most]);
+    }
+}
+
+#[test]
+fn a_refused_capture_is_written_up_to_the_refusal() {
+    let film = film();
+    let cut = &film[..film.len() - 20];
+    let refused = play(cut, Mode::Frames).unwrap_err();
+    let mut written = Vec::new();
+    match play_to(cut, Mode::Frames, &mut written) {
+        Err(PlayError::Refused(error)) => assert_eq!(error, refused.error),
+        other => panic!("{:?}", other),
+    }
+    assert!(!written.is_empty() && written == refused.output);
+    assert_eq!(play_size(cut, Mode::Frames), (written.len(), Err(refused.error)));
+    assert_eq!(play_size(cut, Mode::Pixel(0, 1024)), (0, Err(Error::NoCell)));
+}
+
+#[test]
+fn output_that_is_longer_than_a_piece() {
     let mut writer = Writer::new(Vec::new()).unwrap();
     writer.gp1(0x0800_0001);
     (0..40).for_each(|_| writer.gp1(0x0500_0000));

@@ -31,10 +31,11 @@ export class Parts {
      * Opens a part.
      * @param {number} part
      * @param {string} place where, as a link has it; empty for its last frame
+     * @param {boolean} isAgreed whether changes that are not saved may be lost
      */
-    async open(part, place = '') {
-        if (this.isOpening) return;
+    async open(part, place = '', isAgreed = false) {
         const { file, name } = this.files[part];
+        if (this.isOpening || !(isAgreed || this.app.mayLeave(name, () => this.open(part, place, true)))) return;
         this.isOpening = true;
         try {
             if (await this.app.open(file, name, { parts: this, part, place })) this.check();

@@ -24,7 +24,7 @@ function takeTile(cells, at) {
 }
 
 // Bytes of tiles; with more, every other state is let go.
-const MOST = 400e6;
+const MOST = 160e6;
 
 export class Keyframes {
     constructor() {

@@ -7,12 +7,13 @@ import { playOther, toStart } from './player.js';
 
 // Milliseconds that a slice is to be played in, and how many steps it has at least and at most.
 const WANTED = 16, LEAST = 16384, MOST = 65536;
-// The first slice; states that are kept are not nearer to each other.
-const FIRST = 4096;
+// The first slice. States that are kept are not nearer to each other, and at most so many.
+const FIRST = 4096, STATES = 512;
 
 export class Pass {
     constructor(recording, machine) {
-        Object.assign(this, { recording, machine, at: 0, row: 0, slice: FIRST, apart: FIRST, count: 0, every: 1, keptAt: -FIRST });
+        const apart = Math.max(FIRST, recording.length / STATES);
+        Object.assign(this, { recording, machine, at: 0, row: 0, slice: FIRST, apart, count: 0, every: 1, keptAt: -apart });
         toStart(machine, recording);
     }
 
@@ -50,7 +51,7 @@ export class Pass {
         if (this.at <= step) return;
         if (last < 0) toStart(machine, this.recording); else machine.load(keyframes.bytes(last));
         this.at = last < 0 ? 0 : keyframes.stepOf(last);
-        Object.assign(this, last < 0 ? { count: 0, keptAt: -FIRST } : { count: last * this.every + 1, keptAt: this.at });
+        Object.assign(this, last < 0 ? { count: 0, keptAt: -this.apart } : { count: last * this.every + 1, keptAt: this.at });
         this.row = rows.at(this.at) + 1;
         for (let row = this.row; row < end; row++) if (rows.isPacket(row)) rows.near[row] = NOT_YET;
     }

@@ -33,13 +33,15 @@ export class Receiver {
      * @param {Blob} file
      * @param {string} name
      * @param {{example: string, isDropped: boolean}} from the example that it is, or whether it was dropped
+     * @param {boolean} isAgreed whether changes that are not saved may be lost
      */
-    async open(file, name, from = {}) {
+    async open(file, name, from = {}, isAgreed = false) {
         const { app, compare } = this, kind = await pictureKind(file), before = app.recording;
         if (kind) {
             app.say(`${name} is ${kind}, and not a recording. Compare shows where it differs from what is seen here.`,
                 app.recording && { text: 'Compare it', does: () => { app.say(''); compare.open(file, name); } });
-        } else if (await app.open(file, name, from)) {
+        } else if ((isAgreed || app.mayLeave(name, () => this.open(file, name, from, true)))
+            && await app.open(file, name, from)) {
             element('list').focus({ preventScroll: true });
             if (from.isDropped && before) this.tellOfSecond(before);
         }

@@ -1,4 +1,5 @@
-//! The calls of `c/psxgpu.h`, by hand: names, types and order of fields are those of the header.
+//! The calls of `c/psxgpu.h`, by hand: names, types and order of fields are those of the header. `psxgpu_play_to` is
+//! left out: a panic cannot pass through C.
 use std::os::raw::{c_char, c_void};
 
 /// `PSXGPU_LINE_ROOM`.
@@ -30,6 +31,13 @@ pub const TOO_MANY_EVENTS: u32 = 20;
 /// `psxgpu`: a machine, or none.
 #[repr(C)]
 pub struct Handle {
+    pub at: *mut c_void,
+    pub open: u32,
+}
+
+/// `psxgpu_output`: the output of a capture that was played, or none.
+#[repr(C)]
+pub struct OutputHandle {
     pub at: *mut c_void,
     pub open: u32,
 }
@@ -103,4 +111,15 @@ extern "C" {
         room: usize,
         ended: *mut Ended,
     ) -> u32;
+    pub fn psxgpu_play_size(mode: u32, cell: u32, capture: *const u8, length: usize, ended: *mut Ended) -> u32;
+    pub fn psxgpu_play_output(
+        mode: u32,
+        cell: u32,
+        capture: *const u8,
+        length: usize,
+        output: *mut OutputHandle,
+        ended: *mut Ended,
+    ) -> u32;
+    pub fn psxgpu_output_copy(output: *const OutputHandle, offset: usize, out: *mut u8, room: usize) -> usize;
+    pub fn psxgpu_output_free(output: *mut OutputHandle);
 }

@@ -1,14 +1,14 @@
 //! Whole captures and snapshots: the output of a command of `psxgpu_tool`, and the frames.
 use std::error;
 use std::fmt;
+use std::io::{self, Write};
 
 use super::error::{check_version, Error};
 use super::ffi::{self, Ended};
 use super::gpu::Gpu;
+use super::output::Output;
 use crate::capture::{Reader, Record};
 
-/// The bytes of output for which there is room at first.
-const FIRST_ROOM: usize = 4 << 20;
 /// The bytes of a snapshot's End record.
 const END_BYTES: usize = 4;
 /// The columns of video memory, and the most rows.
@@ -87,6 +87,46 @@ impl error::Error for Refused {
     }
 }
 
+/// Why [`play_to`] did not write a whole output.
+#[derive(Debug)]
+#[non_exhaustive]
+pub enum PlayError {
+    /// The capture was refused. The output of the events before is written.
+    Refused(Error),
+    /// The writer failed.
+    Io(io::Error),
+}
+
+impl fmt::Display for PlayError {
+    fn fmt(&self, out: &mut fmt::Formatter<'_>) -> fmt::Result {
+        match self {
+            PlayError::Refused(error) => error.fmt(out),
+            PlayError::Io(error) => error.fmt(out),
+        }
+    }
+}
+
+impl error::Error for PlayError {
+    fn source(&self) -> Option<&(dyn error::Error + 'static)> {
+        match self {
+            PlayError::Refused(error) => Some(error),
+            PlayError::Io(error) => Some(error),
+        }
+    }
+}
+
+impl From<Error> for PlayError {
+    fn from(error: Error) -> Self {
+        PlayError::Refused(error)
+    }
+}
+
+impl From<io::Error> for PlayError {
+    fn from(error: io::Error) -> Self {
+        PlayError::Io(error)
+    }
+}
+
 /// Plays a capture or a snapshot on a machine of its own. Returns what `psxgpu_tool` writes.
 ///
 /// ```
@@ -100,22 +140,61 @@ impl error::Error for Refused {
 /// # Ok::<(), psxgpu::Refused>(())
 /// ```
 pub fn play(capture: &[u8], mode: Mode) -> Result<Vec<u8>, Refused> {
-    let mut output = vec![0; FIRST_ROOM];
-    loop {
-        let (written, result) = play_into(capture, mode, &mut output);
-        // The length of the output is not known before: it is played again with more room.
-        if result == Err(Error::NoRoom) {
-            let more = 4 * output.len();
-            output.clear();
-            output.resize(more, 0);
-            continue;
-        }
-        output.truncate(written);
-        return match result {
-            Ok(()) => Ok(output),
-            Err(error) => Err(Refused { error, output }),
-        };
+    let request = Request::of(capture, mode).map_err(|error| Refused { error, output: Vec::new() })?;
+    let (output, result) = Output::of(&request);
+    let output = output.into_bytes();
+    match result {
+        Ok(()) => Ok(output),
+        Err(error) => Err(Refused { error, output }),
     }
+}
+
+/// Plays a capture or a snapshot on a machine of its own, and writes its output to `out`, in order. Returns the number
+/// of bytes. The machine plays to its end before the first byte is written, and the library keeps the output meanwhile.
+///
+/// # Errors
+///
+/// [`PlayError::Io`] if `out` fails: then nothing more is written, whether or not the capture is refused. Else
+/// [`PlayError::Refused`] if it is refused: the output before the refusal is written.
+///
+/// ```
+/// use psxgpu::{play_to, Mode, PlayError};
+///
+/// let capture = b"PSXGPUC1\x01\x00\x00\x05\x00\x00\x00\x00";
+/// let mut file = Vec::new();
+/// assert_eq!(play_to(capture, Mode::Play, &mut file)?, 25);
+/// assert_eq!(file, b"14802000\nstatus 14802000\n");
+/// # Ok::<(), PlayError>(())
+/// ```
+pub fn play_to<W: Write>(capture: &[u8], mode: Mode, mut out: W) -> Result<usize, PlayError> {
+    let (output, result) = Output::of(&Request::of(capture, mode)?);
+    let count = output.write_to(&mut out)?;
+    result?;
+    Ok(count)
+}
+
+/// Plays a capture or a snapshot on a machine of its own, and keeps no output. Returns how many bytes [`play_into`]
+/// writes to a buffer that is large enough, also before an error.
+///
+/// ```
+/// use psxgpu::{play_into, play_size, Mode};
+///
+/// let capture = b"PSXGPUC1\x01\x00\x00\x05\x00\x00\x00\x00";
+/// let (size, result) = play_size(capture, Mode::Play);
+/// assert_eq!((size, &result), (25, &Ok(())));
+/// assert_eq!(play_into(capture, Mode::Play, &mut vec![0; size]), (size, result));
+/// ```
+pub fn play_size(capture: &[u8], mode: Mode) -> (usize, Result<(), Error>) {
+    let Request { mode, cell, capture } = match Request::of(capture, mode) {
+        Ok(request) => request,
+        Err(error) => return (0, Err(error)),
+    };
+    let mut ended = Ended::default();
+    // SAFETY: pointer and count are those of a slice, and `ended` is a variable of this call.
+    unsafe {
+        ffi::psxgpu_play_size(mode, cell, capture.as_ptr(), capture.len(), &mut ended);
+    }
+    (ended.written, Error::of(ended))
 }
 
 /// Plays a capture or a snapshot on a machine of its own, and writes its output to a buffer of the caller. Returns how many
@@ -130,21 +209,38 @@ pub fn play(capture: &[u8], mode: Mode) -> Result<Vec<u8>, Refused> {
 /// assert_eq!(&line, b"14802000\n");
 /// ```
 pub fn play_into(capture: &[u8], mode: Mode, out: &mut [u8]) -> (usize, Result<(), Error>) {
-    if let Err(error) = check_version() {
-        return (0, Err(error));
-    }
-    if matches!(mode, Mode::Pixel(x, y) if x >= COLUMNS || y >= COLUMNS) {
-        return (0, Err(Error::NoCell));
-    }
-    let (number, cell) = mode.numbers();
+    let Request { mode, cell, capture } = match Request::of(capture, mode) {
+        Ok(request) => request,
+        Err(error) => return (0, Err(error)),
+    };
     let mut ended = Ended::default();
     // SAFETY: pointers and counts are those of two slices, of which `out` is borrowed for this call alone, and `ended` is a
     // variable of this call.
     unsafe {
         let (at, room) = (out.as_mut_ptr(), out.len());
-        ffi::psxgpu_play(number, cell, capture.as_ptr(), capture.len(), at, room, &mut ended);
+        ffi::psxgpu_play(mode, cell, capture.as_ptr(), capture.len(), at, room, &mut ended);
     }
     (ended.written, Error::of(ended))
+}
+
+/// The first arguments of the calls that play.
+#[derive(Clone, Copy)]
+pub(super) struct Request<'a> {
+    pub(super) mode: u32,
+    pub(super) cell: u32,
+    pub(super) capture: &'a [u8],
+}
+
+impl<'a> Request<'a> {
+    /// Refuses a library of another version, and a cell outside of video memory.
+    fn of(capture: &'a [u8], mode: Mode) -> Result<Request<'a>, Error> {
+        check_version()?;
+        if matches!(mode, Mode::Pixel(x, y) if x >= COLUMNS || y >= COLUMNS) {
+            return Err(Error::NoCell);
+        }
+        let (mode, cell) = mode.numbers();
+        Ok(Request { mode, cell, capture })
+    }
 }
 
 /// What ends a frame.

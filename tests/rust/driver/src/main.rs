@@ -14,7 +14,7 @@ use std::io::{self, Read, Write};
 use std::process;
 
 use psxgpu::capture::{Event, Reader, Start};
-use psxgpu::{frames, play, FrameEnd, Mode};
+use psxgpu::{frames, play, play_size, play_to, FrameEnd, Mode};
 
 type Result<T> = std::result::Result<T, Box<dyn Error>>;
 
@@ -57,12 +57,29 @@ fn played(mode: &[&str], out: &mut impl Write) -> Result<()> {
         ["pixel", x, y] => Mode::Pixel(x.parse()?, y.parse()?),
         _ => return Err("no such mode".into()),
     };
-    match play(&standard_input()?, mode) {
-        Ok(output) => Ok(out.write_all(&output)?),
+    let capture = standard_input()?;
+    match play(&capture, mode) {
+        Ok(output) => {
+            expect_same(&capture, mode, &output)?;
+            Ok(out.write_all(&output)?)
+        }
         Err(refused) => {
+            expect_same(&capture, mode, &refused.output)?;
             out.write_all(&refused.output)?;
             Err(refused.into())
         }
+    }
+}
+
+/// Refuses an output that `play_to` does not write, or whose number of bytes `play_size` does not return.
+fn expect_same(capture: &[u8], mode: Mode, output: &[u8]) -> Result<()> {
+    let mut written = Vec::new();
+    let written_whole = play_to(capture, mode, &mut written).is_ok();
+    let (size, result) = play_size(capture, mode);
+    if written == output && size == output.len() && written_whole == result.is_ok() {
+        Ok(())
+    } else {
+        Err("play_to or play_size differs from play".into())
     }
 }
 

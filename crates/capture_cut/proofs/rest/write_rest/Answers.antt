@@ -1,4 +1,5 @@
-use Rattle.std.proofs.Common.{refl, arith}
+use Rattle.std.proofs.Common.{ap, refl, arith}
+use Rattle.gpu_capture.specs.declared.draft.CaptureFile.{CaptureFile}
 use Rattle.capture_cut.proofs.Coming.{comes_first, pauses_on}
 use Rattle.capture_cut.proofs.Records.{came_on, pause_lacks, reading_ends, record_ends}
 use Rattle.capture_cut.proofs.rest.write_rest.Goals as goal
@@ -6,10 +7,14 @@ use Rattle.capture_cut.proofs.rest.write_rest.Goals as goal
 pub events-init : goal.events-init
 events-init g c = record {
   came = λ cut before heard steps rig came.
-      comes_first _ _ _ _ _ _ _ _ refl c.new.ensures c.offset-since.ensures
+      comes_first _ _ _ _ _ _ _ _ (ap (λ (f : CaptureFile). f.size) c.new-draft.ensures.file)
+      c.new-draft.ensures.buffered
+      c.offset-since.ensures
       c.from-number.ensures came;
   ready = c.requires.ready.goes_on;
-  fits = c.requires.room;
+  fits =
+      let size = ap (λ (f : CaptureFile). f.size) c.new-draft.ensures.file in
+      omega (arith, size, c.requires.room);
   room = omega arith;
   read_faults = omega arith;
   write_faults = omega arith;

@@ -16,7 +16,7 @@ invariant-events g l = record {
       → Comes at before (streams (g.S.Source.left l.source) (g.K.Sink.held l.out) heard steps) rig
       l.reader.progress l.draft l.since l.number;
   ready : l.reader.stop ≡ None;
-  fits : l.draft.size + 4 ≤ 2 ^ 30;
+  fits : l.draft.file.size + 4 ≤ 2 ^ 30;
   room : l.number + work_left l.reader.progress < 2 ^ 52;
   read_faults : g.S.Source.faults l.fn.source ≤ g.S.Source.faults l.source;
   write_faults : g.K.Sink.faults l.fn.out ≤ g.K.Sink.faults l.out;

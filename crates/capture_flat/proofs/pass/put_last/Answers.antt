@@ -1,8 +1,6 @@
-use Rattle.gathered_out.proofs.Puts.{put_fails, put_first, put_none, puts_on}
+use Rattle.gathered_out.proofs.Puts.{put_one}
 use Rattle.capture_flat.proofs.pass.put_last.Goals as goal
 
-pub returns-in-Ok : goal.returns-in-Ok
-returns-in-Ok g c = puts_on _ _ _ _ _ _ _ (put_first _ _ _ _ c.in-Ok.ensures) c.put_end.ensures
-
-pub returns-in-Err : goal.returns-in-Err
-returns-in-Err g c = put_fails _ _ _ _ _ _ _ _ (put_none _ _) c.in-Err.ensures
+pub returns : goal.returns
+returns g c = rw (← c.saturating_add.ensures, ← c.end.ensures.value, ← c.as_slice.ensures.value)
+    (put_one _ _ _ _ _ c.put.ensures.ok c.put.ensures.failed c.put.ensures.cause c.put.ensures.faults)

@@ -1,19 +1,20 @@
 use Rattle.std.proofs.Common.{ap, arith}
 use Rattle.std.proofs.lemmas.Result.{IfErr-weaker}
-use Rattle.capture_slim.specs.declared.file.SlimFile.{SlimFile}
+use Rattle.gpu_capture.specs.declared.draft.CaptureFile.{CaptureFile}
 use Rattle.capture_slim.proofs.Awaiting.{starts, awaits_is, count_is, left_falls, falls_on, goes_on, event_end}
-use Rattle.capture_slim.proofs.Awaiting.{pause_end, paused_on, stop_end}
+use Rattle.capture_slim.proofs.Awaiting.{pause_end, paused_on}
+use Rattle.capture_slim.proofs.ReaderStops.{stop_end}
 use Rattle.capture_slim.proofs.pass.pass_on.Goals as goal
 
 pub events-init : goal.events-init
 events-init g c = record {
-  awaits = starts _ _ _ _ _ _ c.max-version.result c.first_draft-draft.result c.next-next.result
-      c.first_draft-draft.ensures.file c.first_draft-draft.ensures.buffered c.new-reader.ensures.start c.raise.ensures
+  awaits = starts _ _ _ _ _ _ c.max-version.result c.new-draft.result c.next-next.result
+      c.new-draft.ensures.file c.new-draft.ensures.buffered c.new-reader.ensures.start c.raise.ensures
       (omega (arith, c.max-version.ensures, c.version.ensures.value)) c.next-next.ensures.takes
       c.next-next.ensures.version (c.next-next.ensures.stop c.new-reader.ensures.stop);
   file =
-      let version = ap (λ (f : SlimFile). f.version) c.first_draft-draft.ensures.file in
-      let size = ap (λ (f : SlimFile). f.size) c.first_draft-draft.ensures.file in
+      let version = ap (λ (f : CaptureFile). f.version) c.new-draft.ensures.file in
+      let size = ap (λ (f : CaptureFile). f.size) c.new-draft.ensures.file in
       record {
         version = (
           omega (arith, version, c.max-version.ensures),

@@ -1,7 +1,7 @@
 use Rattle.std.proofs.Common.{◌≡◌, ◌+ℤ◌, SFits, w32, rules, refl, ap, arith}
 use Rattle.std.proofs.lemmas.Int.{to_z-of_z, ints}
 use Rattle.gp1_status.specs.Drawing.{offset_x, offset_y}
-use Rattle.gp1_status.specs.declared.drawing.Offset.{Offset}
+use Rattle.gp1_status.specs.declared.regs.drawing.Offset.{Offset}
 use Rattle.prim_draw.specs.Rectangles.{extent_at}
 use Rattle.prim_draw.proofs.rectangles.extent_at.Goals as goal
 

@@ -3,7 +3,7 @@ use Rattle.capture_flat.proofs.passage.FlatteningPassage.most_words.Goals as goa
 
 pub returns-clause-may : goal.returns-clause-may
 returns-clause-may g c = λ n le.
-    omega (arith, le, c.min.ensures, c.saturating_sub-fitting.ensures, c.requires.1)
+    omega (arith, le, c.min.ensures, c.room.ensures)
 
 pub returns-clause-waits : goal.returns-clause-waits
 returns-clause-waits g c = inl (omega (arith, c.min.ensures))

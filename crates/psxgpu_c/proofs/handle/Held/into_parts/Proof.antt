@@ -23,14 +23,14 @@ use denote.Steps.{nothing, heard}
 use Rattle.std.specs.declared.option.Option.{Option}
 use Rattle.std.specs.declared.option.Option.TheVariants.{Some}
 use Rattle.event_play.specs.contracts.rig.Rig as machine
-use Rattle.psxgpu_c.specs.Handle.{IsOpen, machine_in, machine_in-is}
+use Rattle.psxgpu_c.specs.Handle.{IsOpen, value_in, value_in-is}
 use Rattle.psxgpu_c.specs.contracts.handle.Held as Held
 use denote.Triple.Spec.{triple_of}
 use denote.Triple.Table.{entered}
 use denote.Triple.Walked.{says, Stays, stay_dropped, walk_of, ends_at, Goes-dropped, walk_Meets}
 use Rattle.std_alloc.proofs.BoxSteps.Form.{D, B, word, box_typed}
 use Rattle.std_alloc.proofs.BoxSteps.Steps.{box_out, box_in}
-use Rattle.psxgpu_c.proofs.AsBox.{E, FromHandle as From}
+use Rattle.psxgpu_c.proofs.MachineBox.{E, FromHandle as From}
 use Rattle.psxgpu_c.specs.contracts.handle.Held.into_parts as F
 use Rattle.psxgpu_c.specs.contracts.handle.Held.into_parts.Key.{name as #self}
 use Rattle.psxgpu_c.proofs.handle.Held.into_parts.Statement as stated
@@ -52,7 +52,7 @@ module _ {M : Type 1} {𝓤 : Ura M} (𝓛 : Logic 𝓤) (at_mem : Memory → SP
       let h = z.0.3.0 in
       qed 𝓛 ((‵ ftrue ⊛ ‵ (fsep ((Held.the_row).own_val h z.0.4.0) ftrue)) ∷ raw (fact 𝓤 (IsOpen h.value)) ∷ []) ∵
       move ! (1 ∷ []) $ heard ! (IsOpen h.value) (λ open'. split ! $ drop ! $ fsplit ! $
-      let x = machine_in h.value open' in let same : h.value ≡ Some x = machine_in-is h.value open' in
+      let x = value_in h.value open' in let same : h.value ≡ Some x = value_in-is h.value open' in
       let v : D E = record { ptr = h.at; alloc = h.alloc; value = x } in
       let To = type_at (F.signature).result tt in
       let made : To.Denot = record { ptr = v.ptr; alloc = v.alloc; value = v.value } in

@@ -36,7 +36,8 @@ use Rattle.core.proofs.alloc.Calls.{α, handle_tells}
 use Rattle.std_alloc.proofs.ResultValues.{and_tt}
 use Rattle.std_heap.specs.contracts.Global as Heap
 use Rattle.psxgpu_c.specs.contracts.handle.Held as Held
-use Rattle.psxgpu_c.proofs.AsBox.{E, FromAlloc as From}
+use Rattle.psxgpu_c.proofs.AsBox.{FromAlloc as From}
+use Rattle.psxgpu_c.proofs.MachineBox.{E}
 use Rattle.psxgpu_c.specs.contracts.handle.Held.none as F
 use Rattle.psxgpu_c.specs.contracts.handle.Held.none.Key.{name as #self}
 use Rattle.psxgpu_c.proofs.handle.Held.none.Statement as stated

@@ -1,0 +1,21 @@
+use Rattle.std.proofs.Common.{ℕ, ◌<◌, ◌+◌, ◌∙◌, arith}
+use Rattle.span_lanes.proofs.ColorLemmas.{shift_again, no_shift}
+use Rattle.span_lanes.proofs.chunks.untextured.gouraud_tones.Goals as goal
+
+pub returns : goal.returns
+returns c = record {
+  long = c.gouraud_lanes.ensures.long;
+  low = c.gouraud_lanes.ensures.low;
+  value = λ j lt.
+      let span = c.args.chunk.now.span.now in
+      let lane : j < 16 = omega (arith, lt, c.requires.chunk.few) in
+      let x : ℕ = span.x + c.args.chunk.now.first + j in
+      let again = c.requires.offsets.value j lane ∙ shift_again span.brush.dither span.x x span.y j
+      (omega (arith, c.requires.chunk.cut)) in
+      let colors = c.colors.ensures in
+      rw (colors.red j lt, colors.green j lt, colors.blue j lt, ← again) (c.gouraud_lanes.ensures.value j lane);
+}
+
+pub gouraud_lanes-requires-clause-none : goal.gouraud_lanes-requires-clause-none
+gouraud_lanes-requires-clause-none c none i lt = c.requires.offsets.value i lt
+    ∙ no_shift c.args.chunk.now.span.now.brush.dither (c.args.chunk.now.span.now.x + i) c.args.chunk.now.span.now.y none

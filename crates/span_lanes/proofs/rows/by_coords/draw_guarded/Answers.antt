@@ -1,0 +1,40 @@
+use Rattle.std.proofs.Common.{arith, sym, ◌∙◌}
+use Rattle.span_lanes.proofs.CostLemmas.{free_cost, hazard_cost}
+use Rattle.span_lanes.proofs.PlanLemmas.{texels_here}
+use Rattle.span_lanes.proofs.rows.by_coords.draw_guarded.Goals as goal
+
+pub read_texels-texels-requires-clause-texture : goal.read_texels-texels-requires-clause-texture
+read_texels-texels-requires-clause-texture g c = rw c.requires.row_setup.texture at c.requires.can.span.texture
+
+pub read_texels-texels-requires-clause-page : goal.read_texels-texels-requires-clause-page
+read_texels-texels-requires-clause-page g c = rw c.requires.row_setup.texture at c.requires.can.lies.page
+
+pub draw_shaded-requires-clause-texels : goal.draw_shaded-requires-clause-texels
+draw_shaded-requires-clause-texels g c =
+    texels_here c.args.chunk.now c.args.row_setup.now.texture _ _ c.args.vram.now _ c.requires.at
+    c.read_texels-texels.ensures.long c.read_texels-texels.ensures.value
+
+pub returns-then-has_hazard : goal.returns-then-has_hazard
+returns-then-has_hazard g c =
+    let cost = hazard_cost c.args.chunk.now.span.now c.args.row_setup.now.texture c.args.chunk.now.first
+    c.args.chunk.now.k
+    c.requires.row_setup.texture
+    (sym c.has_hazard.ensures.value ∙ c.if-has_hazard.true) in
+    let spent = rw c.requires.row_setup.texture at c.draw_cells.ensures.cost in
+    record {
+      cells = c.draw_cells.ensures.cells;
+      long = c.draw_cells.ensures.long;
+      cost = rw cost (omega (arith, spent));
+    }
+
+pub returns-else-has_hazard : goal.returns-else-has_hazard
+returns-else-has_hazard g c =
+    let cost = free_cost c.args.chunk.now.span.now c.args.row_setup.now.texture c.args.chunk.now.first
+    c.args.chunk.now.k
+    c.requires.row_setup.texture
+    (sym c.has_hazard.ensures.value ∙ c.if-has_hazard.false) in
+    record {
+      cells = c.draw_shaded.ensures.cells;
+      long = c.draw_shaded.ensures.others.count;
+      cost = omega (arith, cost, c.read_texels-texels.ensures.cost, c.draw_shaded.ensures.cost);
+    }
