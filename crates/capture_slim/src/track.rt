@@ -7,11 +7,10 @@ ghost use Rattle.dead_drawing.specs.Control.{controlled, first_control, regs_aft
 ghost use Rattle.capture_slim.specs.declared.effect.Effect.TheVariants.{Nothing};
 ghost use Rattle.capture_slim.specs.Effect.{event_effect};
 ghost use Rattle.gpu_capture.specs.declared.event.Event.TheVariants.{Gp0};
-ghost use Rattle.gp0_packets.specs.Packets.{environment_of};
 ghost use Rattle.capture_slim.specs.Telling.{area_at};
 
 use crate::effect::{Effect, packet_effect};
-use gp0_packets::{Packet, decode};
+use gp0_packets::{Packet, decode, decode_environment};
 use gp0_words::Splitter;
 use gp1_status::{Regs, clears};
 use gpu_capture::Event;
@@ -71,17 +70,6 @@ fn put(regs: &mut Regs, packet: &Packet)
     }
 }
 
-// Sets the register that a word E1h to E6h sets. Other words have no effect.
-#[tactic(auto, unfolding(gp0_packets::specs::Packets::environment_of))]
-fn set_register(regs: &mut Regs, word: u32)
-    ensures { regs.new ≡ regs_after regs.old (environment_of word) }
-{
-    let opcode = word >> 24;
-    if 0xe1 <= opcode && opcode <= 0xe6 {
-        regs.env((opcode - 0xe0) as u8, word & 0xff_ffff);
-    }
-}
-
 impl Track {
     /// Creates the state after a reset: nothing pending, 512 rows.
     #[tactic(auto, unfolding(gp0_words::specs::Items::pending_behind))]
@@ -126,7 +114,8 @@ impl Track {
         ensures area { result.area ≡ area_at self.old (Gp0 word) }
     {
         if self.splitter.passes(word) {
-            set_register(&mut self.regs, word);
+            let packet = decode_environment(word);
+            put(&mut self.regs, &packet);
             return no_effect();
         }
         if self.splitter.push_inside(word) {

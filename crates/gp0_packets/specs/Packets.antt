@@ -1,7 +1,7 @@
 -- The packet of an item (psx-spx, "GPU Render Polygon Commands", "GPU Render Line Commands", "GPU Render Rectangle
 -- Commands", "GPU Rendering Attributes", "GPU Memory Transfer Commands").
 use Rattle.std.specs.Prelude.{ℕ, ◌+◌, ◌-◌, ◌*◌, ◌/◌, ◌%◌, ◌^◌, nat_le, ◌==◌, ◌&&◌}
-use Rattle.std.specs.Prelude.{List, if◌then◌else◌, length, slice_index}
+use Rattle.std.specs.Prelude.{List, Bool, if◌then◌else◌, length, slice_index}
 use Rattle.std.specs.Int.{bit_at}
 use Rattle.gp0_words.specs.Kinds.{is_set, class_of, opcode_of, first_len_of}
 use Rattle.gp0_words.specs.declared.item.Item.{Item}
@@ -36,7 +36,7 @@ attribute_of words i =
     let command = slice_index words 0 in
     if is_set command 26 then high_half (slice_index words (i * stride_of command + 2)) else 0
 
--- the palette is in the first texcoord and the page in the second
+-- the CLUT is in the first texcoord and the page in the second
 unfoldable pub polygon_of : List ℕ → Packet
 polygon_of words =
     let command = slice_index words 0 in
@@ -74,7 +74,7 @@ size_word_of words = if size_code_of words == 0 then slice_index words (2 + bit_
 abbrev pub side_of : (code own : ℕ) → ℕ
 side_of code own = if code == 0 then own else (if code == 1 then 1 else (if code == 2 then 8 else 16))
 
--- the command word has the colour; the first cell follows, then a texcoord with the palette if textured
+-- the command word has the colour; the first cell follows, then a texcoord with the CLUT if textured
 unfoldable pub rectangle_of : List ℕ → Packet
 rectangle_of words =
     let command = slice_index words 0 in
@@ -114,11 +114,12 @@ store_of height words =
 -- ---- all others
 
 -- E1h to E6h set a register; the others of class 7 have no effect (our own rule)
+abbrev pub sets_register : (opcode : ℕ) → Bool
+sets_register opcode = nat_le 0xe1 opcode && nat_le opcode 0xe6
+
 unfoldable pub environment_of : ℕ → Packet
 environment_of word =
-    if nat_le 0xe1 (opcode_of word) && nat_le (opcode_of word) 0xe6
-    then packet.Env (opcode_of word - 0xe0) (low_24 word)
-    else packet.Nop
+    if sets_register (opcode_of word) then packet.Env (opcode_of word - 0xe0) (low_24 word) else packet.Nop
 
 -- 02h is a fill and 1Fh an interrupt; the others of class 0 have no effect
 unfoldable pub other_of : (height : ℕ) → List ℕ → Packet

@@ -5,7 +5,7 @@ ghost use Rattle.gp0_words.specs.declared.item.Item.TheVariants.{Whole};
 ghost use Rattle.px_num.specs.Height.{height_of_profile};
 ghost use Rattle.gp0_packets.specs.Corners.{Carries};
 ghost use Rattle.gp0_packets.specs.Drawn.{IsDrawnBy, IsOfClass};
-ghost use Rattle.gp0_packets.specs.Packets.{environment_of, other_of, whole_of, packet_of};
+ghost use Rattle.gp0_packets.specs.Packets.{sets_register, environment_of, other_of, whole_of, packet_of};
 ghost use Rattle.gp0_packets.specs.Ranges.{IsInRange};
 
 use crate::field::low24;
@@ -18,15 +18,23 @@ use crate::transfer::{copy, fill, load, store};
 use gp0_words::{Item, first_len};
 use px_num::height_of_profile;
 
+/// Whether a word of class 7 with this opcode sets a register: E1h to E6h do, the others have no effect.
+#[inline(always)]
+pub fn sets_register(opcode: u32) -> bool
+    ensures { result ≡ sets_register opcode }
+{
+    0xe1 <= opcode && opcode <= 0xe6
+}
+
 /// Returns the packet of a word of class 7: it sets a register or has no effect.
 #[inline(never)]
 #[tactic(auto, unfolding(crate::specs::Packets::environment_of))]
-fn environment(word: u32) -> Packet
+pub fn decode_environment(word: u32) -> Packet
     ensures value { result ≡ environment_of word }
     ensures ranges { (height : ℕ) → IsInRange height result }
 {
     let opcode = word >> 24;
-    if 0xe1 <= opcode && opcode <= 0xe6 {
+    if sets_register(opcode) {
         Packet::Env {
             index: (opcode - 0xe0) as u8,
             value: low24(word),
@@ -102,7 +110,7 @@ pub fn decode_whole(words: &[u32], height: u16) -> Packet
         4 => copy(words, height),
         5 => load(words, height),
         6 => store(words, height),
-        7 => environment(command),
+        7 => decode_environment(command),
         _ => other(words, height),
     }
 }

@@ -15,7 +15,10 @@ mod polygon;
 mod rectangle;
 mod transfer;
 
-pub use decoder::{decode, decode_line, decode_polygon, decode_rectangle, decode_whole};
+pub use decoder::{
+    decode, decode_environment, decode_line, decode_polygon, decode_rectangle, decode_whole,
+    sets_register,
+};
 pub use note::{Note, class_of, class_of_word, head_of};
 pub use packet::Packet;
 pub use polygon::{Carried, carried_by};

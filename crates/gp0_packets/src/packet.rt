@@ -42,7 +42,7 @@ pub enum Packet {
         semi: bool,
         /// Whether texels are drawn without the colour; false if it is not textured.
         raw: bool,
-        /// The palette attribute, from the first texcoord.
+        /// The CLUT attribute, from the first texcoord.
         clut: u16,
         /// The texture page attribute, from the second texcoord.
         page: u16,
@@ -78,7 +78,7 @@ pub enum Packet {
         u: u8,
         /// The row of the first texel within the texture page.
         v: u8,
-        /// The palette attribute.
+        /// The CLUT attribute.
         clut: u16,
     },
     /// Copies a rectangle of video memory to another position.

@@ -1,6 +1,6 @@
 -- The form of a packet, by its first word (psx-spx, "GPU Render Polygon Commands", "GPU Render Line Commands", "GPU
 -- Render Rectangle Commands", "GPU Memory Transfer Commands").
-use Rattle.std.specs.Prelude.{ℕ, ◌+◌, ◌-◌, ◌*◌, ◌/◌, ◌%◌, ◌^◌, Bool, ◌==◌, if◌then◌else◌, bit_and}
+use Rattle.std.specs.Prelude.{ℕ, ◌+◌, ◌-◌, ◌*◌, ◌/◌, ◌%◌, ◌^◌, Bool, ◌==◌, ◌&&◌, if◌then◌else◌, bit_and}
 use Rattle.std.specs.Int.{bit_at}
 use Rattle.gp0_words.specs.declared.kind.Kind.{Kind}
 use Rattle.gp0_words.specs.declared.kind.Kind.TheVariants.{Plain, Load, Polyline}
@@ -24,6 +24,10 @@ polygon_len_of word = (3 + bit_at word 27) * (bit_at word 28 + 1 + bit_at word 2
 -- the command word with the colour, the vertex, a texcoord if textured (bit 26), and a size if the size code is 0
 abbrev pub rectangle_len_of : ℕ → ℕ
 rectangle_len_of word = 2 + bit_at word 26 + (if word / 2 ^ 27 % 4 == 0 then 1 else 0)
+
+-- a polyline begins with this word: a line whose bit 27 is set
+abbrev pub begins_polyline : ℕ → Bool
+begins_polyline word = (class_of word == 2) && is_set word 27
 
 -- a polyline (bit 27), or one line: command word with the colour, vertex, colour if shaded (bit 28), vertex
 abbrev pub line_kind_of : ℕ → Kind

@@ -17,7 +17,7 @@ mod splitter;
 mod words;
 
 pub use item::Item;
-pub use kind::first_len;
+pub use kind::{ends_polyline, first_len};
 pub use pending::Pending;
 pub use resuming::is_polyline;
 pub use size::{height_of, width_of};

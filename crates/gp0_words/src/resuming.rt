@@ -1,6 +1,6 @@
 // Which values may be pending.
 ghost use Rattle.std.specs.Prelude.{◌≡◌, ◌↔◌, ◌<◌, IsTrue, length, slice_index};
-ghost use Rattle.gp0_words.specs.Kinds.{first_len_of};
+ghost use Rattle.gp0_words.specs.Kinds.{first_len_of, begins_polyline};
 ghost use Rattle.gp0_words.specs.Next.{IsPending, IsPolyline};
 
 use crate::kind::{ends_polyline, first_len};
@@ -36,7 +36,8 @@ impl Pending {
 
 /// Returns whether `command` begins a polyline.
 pub fn is_polyline(command: u32) -> bool
-    ensures { IsTrue result ↔ IsPolyline command }
+    ensures value { result ≡ begins_polyline command }
+    ensures kind { IsTrue result ↔ IsPolyline command }
 {
     command >> 29 == 2 && bit(command, 27)
 }

@@ -40,7 +40,7 @@ strip_cell strip k = record { x = (strip.x + k) % 1024; y = strip.y }
 abbrev pub HasStripHazard : Strip → Cell → ℕ → Type 0
 HasStripHazard strip target n = (k : ℕ) × (k < strip.n) × WrittenBefore target n (strip_cell strip k)
 
--- textured chunks: a hazard of a texel or, if there is a palette, of the palette
+-- textured chunks: a hazard of a texel or, if there is a CLUT, of the CLUT
 abbrev pub HasTextureHazard : List Cell → Option Strip → Cell → ℕ → Type 0
 HasTextureHazard texels clut target n = HasTexelHazard texels target ⊎ MatchOption clut ⊥
     (λ strip. HasStripHazard strip target n)

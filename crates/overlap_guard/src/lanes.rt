@@ -10,11 +10,11 @@ use px_num::{Cell, Strip};
 use std::simd::prelude::*;
 
 /// Returns whether a textured chunk has a hazard: some lane reads as its texel a cell that an earlier lane writes, or
-/// some lane writes a cell of the palette.
+/// some lane writes a cell of the CLUT.
 ///
 /// The chunk has `n` lanes, 1 to 16. Lane `i` reads the cell in column `xs[i]` and row `ys[i]`. It writes the cell
 /// `i` columns to the right of `to`; `to.x + n` is at most 1024. All sixteen columns `xs` must be below 1024. Without
-/// a palette `clut` only texels count. The result equals that of [`texture_hazard`](crate::texture_hazard) for these
+/// a CLUT `clut` only texels count. The result equals that of [`texture_hazard`](crate::texture_hazard) for these
 /// cells.
 #[inline(always)]
 pub fn lanes_hazard(xs: u16x16, ys: u16x16, clut: Option<Strip>, to: Cell, n: u8) -> bool
@@ -37,8 +37,8 @@ fn lanes_read_written(xs: u16x16, ys: u16x16, clut: Option<Strip>, to: Cell, n: 
     ensures { IsTrue result ↔ HasTextureHazard (lane_cells xs ys n) clut to n }
 {
     let texel = any_read_after_write(xs, ys, to, n);
-    let palette = clut_hazard(clut, to, n);
-    texel || palette
+    let entry = clut_hazard(clut, to, n);
+    texel || entry
 }
 
 // Returns whether some lane reads as its texel a cell that an earlier lane writes.

@@ -1,4 +1,4 @@
-// Texture and palette hazards.
+// Texture and CLUT hazards.
 ghost use Rattle.std.specs.Prelude.{◌≡◌, ◌+◌, ◌-◌, ◌%◌, ◌≤◌, ◌<◌, ◌⊎◌, ◌↔◌, IsTrue, length};
 ghost use Rattle.std.specs.Option.{MatchOption};
 ghost use Rattle.overlap_guard.specs.Hazard.{WrittenBefore, HasTexelHazard, HasStripHazard, HasTextureHazard};
@@ -7,10 +7,10 @@ ghost use Rattle.overlap_guard.specs.Hazard.{has_texture_hazard};
 use px_num::{Cell, Strip};
 
 /// Returns whether a textured chunk has a hazard: some lane reads as its texel a cell that an earlier lane writes, or
-/// some lane writes a cell of the palette.
+/// some lane writes a cell of the CLUT.
 ///
 /// The chunk has `n` lanes, 1 to 16. Lane `i` reads `texels[i]` and writes the cell `i` columns to the right of `to`;
-/// `to.x + n` is at most 1024. `clut` is the palette, a strip that wraps at 1024 columns; without a palette only
+/// `to.x + n` is at most 1024. `clut` is the CLUT, a strip that wraps at 1024 columns; without a CLUT only
 /// texels count. This function tests one texel after another. The drawing code calls
 /// [`lanes_hazard`](crate::lanes_hazard), which is proved to return the same.
 pub fn texture_hazard(texels: &[Cell], clut: Option<Strip>, to: Cell, n: u8) -> bool
@@ -29,8 +29,8 @@ fn reads_written(texels: &[Cell], clut: Option<Strip>, to: Cell, n: u8) -> bool
     ensures { IsTrue result ↔ HasTextureHazard texels.now clut to n }
 {
     let texel = texel_hazard(texels, to);
-    let palette = clut_hazard(clut, to, n);
-    texel || palette
+    let entry = clut_hazard(clut, to, n);
+    texel || entry
 }
 
 // Returns whether some lane reads as its texel a cell that an earlier lane writes.
@@ -58,8 +58,8 @@ fn lies_before(cell: Cell, to: Cell, j: usize) -> bool
     cell.y == to.y && to.x <= cell.x && ((cell.x - to.x) as usize) < j
 }
 
-/// Returns whether some of the `n` lanes of a chunk from `to` on writes a cell of the palette. Returns false without
-/// a palette. `n` is at least 1, and `to.x + n` at most 1024.
+/// Returns whether some of the `n` lanes of a chunk from `to` on writes a cell of the CLUT. Returns false without
+/// a CLUT. `n` is at least 1, and `to.x + n` at most 1024.
 pub fn clut_hazard(clut: Option<Strip>, to: Cell, n: u8) -> bool
     requires some { 1 ≤ n }
     requires target { to.x + n ≤ 1024 }

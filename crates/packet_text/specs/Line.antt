@@ -1,7 +1,8 @@
 -- The lines that the commands write (our own rule). Each ends with one newline byte.
-use Rattle.std.specs.Prelude.{ℕ, List, [], ◌++◌, Option, None, Some, ◌==◌, ◌&&◌, nat_le, if◌then◌else◌, codes, decimal}
+use Rattle.std.specs.Prelude.{ℕ, List, [], ◌++◌, Option, None, Some, ◌==◌, if◌then◌else◌, codes, decimal}
 use Rattle.std.specs.Fmt.{signed_decimal}
 use Rattle.gp0_packets.specs.declared.note.Note.{Note}
+use Rattle.gp0_packets.specs.Packets.{sets_register}
 use Rattle.gp0_words.specs.Kinds.{opcode_of}
 use Rattle.px_num.specs.declared.shape.Box2.{Box2}
 use Rattle.packet_text.specs.Number.{word_text, cell_text}
@@ -24,7 +25,7 @@ miscellaneous_name opcode =
 
 -- class 7
 abbrev pub environment_name : (opcode : ℕ) → List ℕ
-environment_name opcode = if nat_le 0xe1 opcode && nat_le opcode 0xe6 then codes "environment" else codes "nop"
+environment_name opcode = if sets_register opcode then codes "environment" else codes "nop"
 
 -- the name of an item, by its class and its head
 abbrev pub note_name : (class head : ℕ) → List ℕ

@@ -6,7 +6,7 @@ ghost use Rattle.packet_text.specs.Line.{word_line, status_line, note_name, note
 use crate::number::{cell_digits, decimal_text, hex_digits, signed_text};
 use arrayvec::ArrayVec;
 use dev_io::{Failed, Sink, write_all, write_pieces};
-use gp0_packets::Note;
+use gp0_packets::{Note, sets_register};
 use itoa::Buffer;
 use px_num::{Box2, bits};
 
@@ -85,7 +85,7 @@ fn name_of(class: u8, head: u32) -> &'static [u8]
         4 => b"copy",
         5 => b"load",
         6 => b"store",
-        7 if 0xe1 <= opcode && opcode <= 0xe6 => b"environment",
+        7 if sets_register(opcode) => b"environment",
         7 => b"nop",
         8 => b"finish",
         _ => b"pixels",

@@ -6,10 +6,10 @@ use Rattle.std.proofs.Common.{◌∙◌, arith}
 use Rattle.std.proofs.Common.{if◌then◌else◌}
 use Rattle.std.proofs.lemmas.Bool.{leb-true, eqb-true, and_parts, cases_Bool}
 use Rattle.std.proofs.lemmas.Nat.{mul-le}
-use Rattle.gp0_words.specs.Kinds.{class_of, is_end, is_set}
+use Rattle.gp0_words.specs.Kinds.{class_of, is_end, is_set, begins_polyline}
 use Rattle.gp0_words.specs.Next.{IsPolyline}
 use Rattle.gp1_status.proofs.WordsBack.{flags-again}
-use Rattle.snapshot_words.specs.Sections.{is_line, IsWhole}
+use Rattle.snapshot_words.specs.Sections.{IsWhole}
 use Rattle.snapshot_words.specs.Shapes.{IsPendingPart, IsRunPart}
 use Rattle.snapshot_words.specs.declared.section.Section.TheVariants as section
 use Rattle.snapshot_words.proofs.Packets.{IsPacketPart, packet_is}
@@ -27,7 +27,7 @@ kinds (suc (suc (suc (suc k)))) few = absurd (omega (arith, few))
 
 -- ---- polylines
 
-line_is : (command : ℕ) → is_line command ≡ true → IsPolyline command
+line_is : (command : ℕ) → begins_polyline command ≡ true → IsPolyline command
 line_is command e =
     let parts = and_parts (class_of command == 2) (is_set command 27) e in
     let two : class_of command ≡ 2 = eqb-true (class_of command) 2 parts.0 in

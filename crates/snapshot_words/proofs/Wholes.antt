@@ -8,7 +8,7 @@ use Rattle.std.proofs.lemmas.Bool.{le-ltb, eq-eqb, ne_eqb, lt-ltb, le-leb, and_f
 use Rattle.std.proofs.lemmas.Bool.Decides.{nat_tests}
 use Rattle.std.proofs.lemmas.List.{length-take-le}
 use Rattle.std.proofs.lemmas.Nat.{mul-le}
-use Rattle.gp0_words.specs.Kinds.{first_len_of, class_of, is_set}
+use Rattle.gp0_words.specs.Kinds.{first_len_of, class_of, is_set, begins_polyline}
 use Rattle.gp0_words.specs.Next.{IsPending, IsPolyline}
 use Rattle.gp0_words.specs.declared.pending.Pending.{Pending}
 use Rattle.gp0_words.specs.declared.pending.Pending.TheVariants as pending
@@ -21,7 +21,7 @@ use Rattle.list_dma.specs.declared.run.Run.{Run}
 use Rattle.list_dma.specs.declared.run.Run.TheVariants as run
 use Rattle.px_num.specs.Height.{IsHeight}
 use Rattle.vram_copy.specs.declared.transfer.Transfer.{Transfer}
-use Rattle.snapshot_words.specs.Sections.{wants, allows, is_address, is_line, AreAllowed, IsWhole}
+use Rattle.snapshot_words.specs.Sections.{wants, allows, is_address, AreAllowed, IsWhole}
 use Rattle.snapshot_words.specs.Values.{front_words, job_words, store_words, pending_words, run_words}
 use Rattle.snapshot_words.specs.declared.section.Section.TheVariants as section
 use Rattle.snapshot_words.proofs.Gathering.{none_allowed, allowed_on}
@@ -136,7 +136,7 @@ first_most : (w : ℕ) → first_len_of w ≤ 12
 first_most w = grind (arith, nat_tests)
 
 -- a polyline's command word
-line_command : (command : ℕ) → IsPolyline command → is_line command ≡ true
+line_command : (command : ℕ) → IsPolyline command → begins_polyline command ≡ true
 line_command command is =
     elim (cases_Bool (class_of command == 1)) [
       | inl polygon ↦ absurd (let e = rw polygon at is in cc)

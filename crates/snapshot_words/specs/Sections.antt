@@ -1,7 +1,7 @@
 -- The table of a state: its parts, how many words each has, and which words are allowed there (our own rule).
 use Rattle.std.specs.Prelude.{◌≡◌, ◌<◌, ℕ, ◌+◌, ◌-◌, ◌*◌, ◌%◌, min, Bool, true, false, not, List}
 use Rattle.std.specs.Prelude.{if◌then◌else◌, nat_lt, nat_le, ◌==◌, ◌&&◌, ◌||◌, ◌^◌, length, slice_index, take}
-use Rattle.gp0_words.specs.Kinds.{first_len_of, class_of, is_end, is_set}
+use Rattle.gp0_words.specs.Kinds.{first_len_of, begins_polyline, is_end, is_set}
 use Rattle.px_num.specs.Height.{IsHeight}
 use Rattle.gp1_status.specs.Words.{is_allowed}
 use Rattle.snapshot_words.specs.declared.section.Section.{Section}
@@ -13,10 +13,6 @@ is_within low high word = nat_le low word && nat_le word high
 -- the address of a word of main memory
 abbrev pub is_address : ℕ → Bool
 is_address word = (word % 4 == 0) && nat_lt word 0x200000
-
--- a polyline begins with this word
-abbrev pub is_line : ℕ → Bool
-is_line word = (class_of word == 2) && is_set word 27
 
 -- ---- how many words a part has, by its words so far; a word not read yet counts as 0
 
@@ -72,7 +68,7 @@ allows_packet got word =
 -- command word, colour, vertex, flag, and the colour of a begun joint
 abbrev pub allows_line : List ℕ → ℕ → Bool
 allows_line got word =
-    if length got == 1 then is_line word else
+    if length got == 1 then begins_polyline word else
     (if length got == 2 then is_set (slice_index got 1) 28 || (word == slice_index got 1) else
     (if length got == 3 then true else
     (if length got == 4 then (if is_set (slice_index got 1) 28 then nat_le word 1 else word == 0)

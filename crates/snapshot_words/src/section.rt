@@ -1,6 +1,5 @@
 // The parts of a state, and which words are allowed in each.
 ghost use Rattle.std.specs.Prelude.{◌≡◌, ◌≤◌, ◌<◌, ◌*◌, ◌==◌, length, slice_index};
-ghost use Rattle.gp0_words.specs.Kinds.{is_set, is_end};
 ghost use Rattle.snapshot_words.specs.Sections.{
   allows,
   allows_front,
@@ -14,10 +13,10 @@ ghost use Rattle.snapshot_words.specs.Sections.{
   IsSection,
   is_address,
   is_within,
-  is_line,
 };
 
-use gp0_words::first_len;
+use gp0_words::{ends_polyline, first_len, is_polyline};
+use px_num::bit;
 
 /// The size of main memory in bytes.
 const MEMORY_BYTES: u32 = 0x20_0000;
@@ -50,21 +49,6 @@ pub(crate) fn word_at(got: &[u32], i: usize) -> u32
     if i < got.len() { got[i] } else { 0 }
 }
 
-// Returns whether bit `k` of a word is 1.
-fn bit(word: u32, k: u32) -> bool
-    requires { k < 32 }
-    ensures { result ≡ is_set word k }
-{
-    word >> k & 1 == 1
-}
-
-// Returns whether a word ends a polyline if it comes instead of the first word of a vertex.
-fn ends_polyline(word: u32) -> bool
-    ensures { result ≡ is_end word }
-{
-    word & 0xf000_f000 == 0x5000_5000
-}
-
 fn is_within(low: u32, high: u32, word: u32) -> bool
     ensures { result ≡ is_within low high word }
 {
@@ -75,12 +59,6 @@ fn is_address(word: u32) -> bool
     ensures { result ≡ is_address word }
 {
     word % 4 == 0 && word < MEMORY_BYTES
-}
-
-fn is_line(word: u32) -> bool
-    ensures { result ≡ is_line word }
-{
-    word >> 29 == 2 && bit(word, 27)
 }
 
 fn allows_front(got: &[u32], word: u32) -> bool
@@ -121,7 +99,7 @@ fn allows_line(got: &[u32], word: u32) -> bool
     ensures { result ≡ allows_line got.now word }
 {
     match got.len() {
-        1 => is_line(word),
+        1 => is_polyline(word),
         2 => bit(word_at(got, 1), 28) || word == word_at(got, 1),
         3 => true,
         4 => if bit(word_at(got, 1), 28) {

@@ -27,7 +27,7 @@ texel_entry t u v m cell h low e read =
     rw (low_depth t.page.depth low)
     (ap (λ (k : ℕ). at_cell m (clut_place t.clut (index_at t.page t.window u k))) (read ∙ ap (at_cell m) e))
 
--- a texel of four bits is the palette entry at its index
+-- a texel of four bits is the CLUT entry at its index
 pub texel_four : (t : Texture) (u v : ℕ) (m : List ℕ) (across h e : ℕ) → t.page.depth ≡ 0
     → across ≡ windowed t.window.mask_x t.window.off_x u
     → h ≡ at_cell m (texel_place t.page t.window u v) → e ≡ at_cell m (clut_place t.clut (index_in 0 across h))
@@ -37,7 +37,7 @@ texel_four t u v m across h e four window read entry =
     entry ∙ ap (λ (i : ℕ). at_cell m (clut_place t.clut i)) here
     ∙ texel_entry t u v m (texel_place t.page t.window u v) h (omega (arith, four)) refl read
 
--- a texel of eight bits is the palette entry at its index
+-- a texel of eight bits is the CLUT entry at its index
 pub texel_eight : (t : Texture) (u v : ℕ) (m : List ℕ) (across h e : ℕ) → t.page.depth ≡ 1
     → across ≡ windowed t.window.mask_x t.window.off_x u
     → h ≡ at_cell m (texel_place t.page t.window u v) → e ≡ at_cell m (clut_place t.clut (index_in 1 across h))

@@ -17,17 +17,17 @@ HasPage height texture = texture.page.y + 255 < height
 abbrev pub at_cell : List ℕ → Cell → ℕ
 at_cell m cell = at m cell.x cell.y
 
--- the texel at column u and row v, with its cell and its palette entry as they are in m
+-- the texel at column u and row v, with its cell and its CLUT entry as they are in m
 unfoldable pub texel : Texture → ℕ → ℕ → List ℕ → ℕ
 texel t u v m =
     if nat_lt t.page.depth 2
     then at_cell m (clut_place t.clut (index_at t.page t.window u (at_cell m (texel_place t.page t.window u v))))
     else at_cell m (texel_place t.page t.window u v)
 
--- the accesses for a texel: its cell, and at depths 0 and 1 the palette entry
+-- the accesses for a texel: its cell, and at depths 0 and 1 the CLUT entry
 abbrev pub texel_steps : ℕ → ℕ
 texel_steps depth = if nat_lt depth 2 then 2 else 1
 
--- the row of a palette, which is that of its first entry
+-- the row of a CLUT, which is that of its first entry
 abbrev pub clut_row : ℕ → ℕ
 clut_row clut = (clut_place clut 0).y

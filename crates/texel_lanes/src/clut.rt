@@ -13,7 +13,7 @@ use std::sync::ledger::Ledger;
 use texture_page::clut_cell;
 use vram_store::{Steps, Vram};
 
-/// Returns the row of video memory that contains the palette, below 512. `clut` is the palette's attribute.
+/// Returns the row of video memory that contains the CLUT, below 512. `clut` is its attribute.
 #[inline(always)]
 pub fn clut_row(clut: u16) -> u16
     ensures value { result ≡ clut_row clut }
@@ -22,7 +22,7 @@ pub fn clut_row(clut: u16) -> u16
     clut_cell(clut, 0).y
 }
 
-// Returns the column of the palette entry for each index. Indexes are below 256. Columns wrap at 1024.
+// Returns the column of the CLUT entry for each index. Indexes are below 256. Columns wrap at 1024.
 #[inline(always)]
 fn entry_columns(clut: u16, indexes: u16x16) -> u16x16
     requires long { length indexes ≡ 16 }
@@ -34,7 +34,7 @@ fn entry_columns(clut: u16, indexes: u16x16) -> u16x16
     low_bits(add(splat(clut % 64 * 16), indexes), 10)
 }
 
-/// Returns the first sixteen entries of a palette. Its row is always one of the first 512. Costs at most one step.
+/// Returns the first sixteen entries of a CLUT. Its row is always one of the first 512. Costs at most one step.
 #[inline(always)]
 pub fn sixteen_entries<L: Ledger>(vram: &Vram, clut: u16, steps: &mut Steps<L>) -> u16x16
     ensures long { length result ≡ 16 }
@@ -45,7 +45,7 @@ pub fn sixteen_entries<L: Ledger>(vram: &Vram, clut: u16, steps: &mut Steps<L>) 
     vram.load16(clut % 64 * 16, clut_row(clut), 16, steps)
 }
 
-/// Returns the palette entries for the first `k` indexes, 1 to 16; the other lanes have no specified value. All
+/// Returns the CLUT entries for the first `k` indexes, 1 to 16; the other lanes have no specified value. All
 /// sixteen indexes must be below 256. Costs at most `k` steps.
 #[inline(always)]
 pub fn gather_entries<G: Gather, L: Ledger>(
@@ -65,7 +65,7 @@ pub fn gather_entries<G: Gather, L: Ledger>(
 {
     let _height = vram.height();
     let columns = entry_columns(clut, indexes);
-    G::gather_in_row(vram, columns, clut_row(clut), k, steps)
+    vram.gather_in_row(columns, clut_row(clut), k, G::width(k), steps)
 }
 
 /// Sixteen halfwords, split into low and high bytes.

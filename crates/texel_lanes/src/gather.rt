@@ -11,39 +11,16 @@ use std::simd::prelude::*;
 use std::sync::ledger::Ledger;
 use vram_store::{Steps, Vram};
 
-/// The method of reading `k` cells, 1 to 16. The functions that read texels are compiled once for each method, so
-/// each suits a range of `k`.
+/// How many cells are read where `k` are needed, 1 to 16. The functions that read texels are compiled once for each
+/// type, so each suits a range of `k`.
 pub trait Gather {
     /// Returns whether callers should test for contiguous or close cells first.
     fn looks() -> bool;
 
-    /// Returns the cells at columns `xs` and rows `ys` in the first `k` lanes. The other lanes have no specified
-    /// value, but all sixteen must be cells of video memory. Costs at most `k` steps.
-    fn gather<L: Ledger>(vram: &Vram, xs: u16x16, ys: u16x16, k: u8, steps: &mut Steps<L>) -> u16x16
-        requires few { (1 ≤ k) × (k ≤ 16) }
-        requires long { (length xs ≡ 16) × (length ys ≡ 16) }
-        requires in_row { EachLane (λ i. slice_index xs i < 1024) }
-        requires in_height { EachLane (λ i. slice_index ys i < height_of vram.now) }
-        ensures long { length result ≡ 16 }
-        ensures value { (j : ℕ) → j < k → slice_index result j ≡ at vram.now (slice_index xs j) (slice_index ys j) }
-        ensures cost { steps.new ≤ steps.old + k };
-
-    /// Returns the cells at columns `xs` of row `y` in the first `k` lanes. The other lanes have no specified value,
-    /// but all sixteen columns must be below 1024. Costs at most `k` steps.
-    fn gather_in_row<L: Ledger>(
-        vram: &Vram,
-        xs: u16x16,
-        y: u16,
-        k: u8,
-        steps: &mut Steps<L>,
-    ) -> u16x16
-        requires few { (1 ≤ k) × (k ≤ 16) }
-        requires long { length xs ≡ 16 }
-        requires in_row { EachLane (λ i. slice_index xs i < 1024) }
-        requires in_height { y < height_of vram.now }
-        ensures long { length result ≡ 16 }
-        ensures value { (j : ℕ) → j < k → slice_index result j ≡ at vram.now (slice_index xs j) y }
-        ensures cost { steps.new ≤ steps.old + k };
+    /// Returns how many cells are read for the first `k`. A constant is faster than a loop over `k` cells.
+    fn width(k: u8) -> u8
+        requires few { k ≤ 16 }
+        ensures { (k ≤ result) × (result ≤ 16) };
 }
 
 /// Reads `k` cells in a loop.
@@ -62,25 +39,8 @@ impl Gather for OneByOne {
     }
 
     #[inline(always)]
-    fn gather<L: Ledger>(
-        vram: &Vram,
-        xs: u16x16,
-        ys: u16x16,
-        k: u8,
-        steps: &mut Steps<L>,
-    ) -> u16x16 {
-        vram.gather(xs, ys, k, k, steps)
-    }
-
-    #[inline(always)]
-    fn gather_in_row<L: Ledger>(
-        vram: &Vram,
-        xs: u16x16,
-        y: u16,
-        k: u8,
-        steps: &mut Steps<L>,
-    ) -> u16x16 {
-        vram.gather_in_row(xs, y, k, k, steps)
+    fn width(k: u8) -> u8 {
+        k
     }
 }
 
@@ -91,25 +51,8 @@ impl Gather for HalfAtOnce {
     }
 
     #[inline(always)]
-    fn gather<L: Ledger>(
-        vram: &Vram,
-        xs: u16x16,
-        ys: u16x16,
-        k: u8,
-        steps: &mut Steps<L>,
-    ) -> u16x16 {
-        vram.gather(xs, ys, k, k.max(HALF), steps)
-    }
-
-    #[inline(always)]
-    fn gather_in_row<L: Ledger>(
-        vram: &Vram,
-        xs: u16x16,
-        y: u16,
-        k: u8,
-        steps: &mut Steps<L>,
-    ) -> u16x16 {
-        vram.gather_in_row(xs, y, k, k.max(HALF), steps)
+    fn width(k: u8) -> u8 {
+        k.max(HALF)
     }
 }
 
@@ -120,25 +63,8 @@ impl Gather for AllAtOnce {
     }
 
     #[inline(always)]
-    fn gather<L: Ledger>(
-        vram: &Vram,
-        xs: u16x16,
-        ys: u16x16,
-        k: u8,
-        steps: &mut Steps<L>,
-    ) -> u16x16 {
-        vram.gather(xs, ys, k, 16, steps)
-    }
-
-    #[inline(always)]
-    fn gather_in_row<L: Ledger>(
-        vram: &Vram,
-        xs: u16x16,
-        y: u16,
-        k: u8,
-        steps: &mut Steps<L>,
-    ) -> u16x16 {
-        vram.gather_in_row(xs, y, k, 16, steps)
+    fn width(_k: u8) -> u8 {
+        16
     }
 }
 
@@ -202,6 +128,6 @@ pub(crate) fn halfwords_of<G: Gather, L: Ledger>(
     if G::looks() && k > HALF && stand_near(xs, ys, x, y) {
         near_halfwords(vram, xs, x, y, steps)
     } else {
-        G::gather(vram, xs, ys, k, steps)
+        vram.gather(xs, ys, k, G::width(k), steps)
     }
 }

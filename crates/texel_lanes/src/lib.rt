@@ -1,7 +1,7 @@
 //! The texels of a chunk of up to sixteen pixels: their cells in video memory and their values.
 //!
 //! A texel has coordinates within its page. Texture window and page map them to a cell. For texels of four and eight
-//! bits, the cell contains an index, and the texel is the palette entry at this index.
+//! bits, the cell contains an index, and the texel is the CLUT entry at this index.
 //!
 //! The functions read up to sixteen texels at once. All reads are from video memory as it is before the first pixel
 //! of the chunk is written. `overlap_guard` decides whether a chunk may be read so.

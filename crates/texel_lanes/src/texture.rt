@@ -10,14 +10,14 @@ use std::sync::ledger::Ledger;
 use texture_page::{Page, Window, clut_cell, index_of, texel_cell};
 use vram_store::{Steps, Vram};
 
-/// A texture: page, window, palette, and whether it is drawn raw.
+/// A texture: page, window, CLUT, and whether it is drawn raw.
 #[derive(Clone, Copy)]
 pub struct Texture {
     /// The position of its texels in video memory, and the number of bits of each.
     pub page: Page,
     /// The texture window: the part of the page that is repeated.
     pub window: Window,
-    /// The palette attribute: bits 0 to 5 are the palette's column divided by 16, bits 6 to 14 its row. Bit 15 is
+    /// The CLUT attribute: bits 0 to 5 are the CLUT's column divided by 16, bits 6 to 14 its row. Bit 15 is
     /// ignored.
     pub clut: u16,
     /// Whether texels are drawn unmodulated (raw texture).
@@ -33,8 +33,8 @@ pub struct Coordinates {
     pub vs: u16x16,
 }
 
-// Returns a cell of a palette. Its row must be one of the first 512.
-fn palette_entry<L: Ledger>(vram: &Vram, cell: Cell, steps: &mut Steps<L>) -> u16
+// Returns a cell of a CLUT. Its row must be one of the first 512.
+fn clut_entry<L: Ledger>(vram: &Vram, cell: Cell, steps: &mut Steps<L>) -> u16
     requires in_row { cell.x < 1024 }
     requires in_height { cell.y < short_height }
     ensures value { result ≡ at vram.now cell.x cell.y }
@@ -63,7 +63,7 @@ pub fn read_texel<L: Ledger>(
     let h = vram.get(cell.x, cell.y, steps);
     if texture.page.depth < 2 {
         let index = index_of(&texture.page, &texture.window, u, h);
-        palette_entry(vram, clut_cell(texture.clut, index), steps)
+        clut_entry(vram, clut_cell(texture.clut, index), steps)
     } else {
         h
     }

@@ -1,4 +1,4 @@
--- The cells of a texel and of its palette entry (psx-spx, "GPU Rendering Attributes": texpage and clut attributes;
+-- The cells of a texel and of its CLUT entry (psx-spx, "GPU Rendering Attributes": texpage and clut attributes;
 -- "GPU Video Memory (VRAM)": texture bitmaps and palettes; GP0(E2h) "Texture Window setting"). That columns wrap at
 -- 1024 is our own rule.
 use Rattle.std.specs.Prelude.{ℕ, ◌+◌, ◌-◌, ◌*◌, ◌/◌, ◌%◌, ◌^◌, ◌≤◌, ◌==◌, if◌then◌else◌}
@@ -48,7 +48,7 @@ index_in depth u h =
 abbrev pub index_at : Page → Window → ℕ → ℕ → ℕ
 index_at page window u h = index_in page.depth (windowed window.mask_x window.off_x u) h
 
--- the cell of a palette entry: bits 0 to 5 of the attribute are the palette's column divided by 16, bits 6 to 14 its
+-- the cell of a CLUT entry: bits 0 to 5 of the attribute are the CLUT's column divided by 16, bits 6 to 14 its
 -- row
 abbrev pub clut_place : ℕ → ℕ → Cell
 clut_place clut index = record { x = (clut % 64 * 16 + index) % 1024; y = clut / 64 % 512 }

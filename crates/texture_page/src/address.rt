@@ -1,4 +1,4 @@
-// Cells of texels and of palette entries.
+// Cells of texels and of CLUT entries.
 ghost use Rattle.std.specs.Prelude.{◌≡◌, ◌≤◌, ◌<◌, ◌+◌};
 ghost use Rattle.texture_page.specs.Page.{IsPage, IsWindow, windowed, column, texel_place, index_in, index_at};
 ghost use Rattle.texture_page.specs.Page.{clut_place};
@@ -27,7 +27,7 @@ pub fn texel_cell(page: &Page, window: &Window, u: u8, v: u8) -> Cell
     }
 }
 
-/// Returns the palette index of the texel at column `u`, given the halfword `h` of its cell. The depth is 0 or 1. At
+/// Returns the CLUT index of the texel at column `u`, given the halfword `h` of its cell. The depth is 0 or 1. At
 /// depth 0 the index is below 16.
 pub fn index_of(page: &Page, window: &Window, u: u8, h: u16) -> u8
     requires page { IsPage page.now }
@@ -39,7 +39,7 @@ pub fn index_of(page: &Page, window: &Window, u: u8, h: u16) -> u8
     index_part(page.depth, under_window(window.mask_x, window.off_x, u), h)
 }
 
-/// Returns the cell of a palette entry. Bits 0 to 5 of `clut` are the palette's column divided by 16, bits 6 to 14
+/// Returns the cell of a CLUT entry. Bits 0 to 5 of `clut` are the CLUT's column divided by 16, bits 6 to 14
 /// its row; bit 15 is ignored. The column wraps at 1024 (our own rule).
 pub fn clut_cell(clut: u16, index: u8) -> Cell
     ensures value { result ≡ clut_place clut index }

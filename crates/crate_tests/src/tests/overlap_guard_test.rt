@@ -18,7 +18,7 @@ fn a_copy_to_the_right_within_the_chunk_has_a_hazard(rt: HostRuntime) {
 }
 
 #[test]
-fn texels_just_written_and_palettes_under_a_chunk_are_hazards(rt: HostRuntime) {
+fn texels_just_written_and_cluts_under_a_chunk_are_hazards(rt: HostRuntime) {
     let row = [0, 1, 2, 3].map(|x| Cell { x, y: 0 });
     let flipped = [
         Cell { x: 2, y: 0 },

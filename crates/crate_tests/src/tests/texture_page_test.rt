@@ -27,7 +27,7 @@ fn texels_flipped_and_in_a_window(rt: HostRuntime) {
 }
 
 #[test]
-fn a_palette_that_wraps(rt: HostRuntime) {
+fn a_clut_that_wraps(rt: HostRuntime) {
     let page = Page {
         x: 64,
         y: 0,

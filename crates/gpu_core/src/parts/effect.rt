@@ -16,7 +16,7 @@ use crate::parts::Parts;
 use crate::parts::transfer::start;
 use gp0_packets::{
     Carried, Note, Packet, carried_by, class_of, class_of_word, decode, decode_line,
-    decode_polygon, decode_rectangle, decode_whole, head_of,
+    decode_polygon, decode_rectangle, decode_whole, head_of, sets_register,
 };
 use gp0_words::Item;
 use gp1_status::Regs;
@@ -105,7 +105,7 @@ impl Parts {
         ensures { self.new ≡ effect_of self.old (environment_of word) }
     {
         let opcode = word >> 24;
-        if 0xe1 <= opcode && opcode <= 0xe6 {
+        if sets_register(opcode) {
             self.regs.env((opcode - 0xe0) as u8, word & 0xff_ffff);
         }
     }

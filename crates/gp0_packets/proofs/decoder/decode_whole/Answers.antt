@@ -10,4 +10,4 @@ pub returns-in-3-clause-ranges : goal.returns-in-3-clause-ranges
 returns-in-3-clause-ranges c = c.rectangle.ensures.ranges c.args.height
 
 pub returns-in-7-clause-ranges : goal.returns-in-7-clause-ranges
-returns-in-7-clause-ranges c = c.environment.ensures.ranges c.args.height
+returns-in-7-clause-ranges c = c.decode_environment.ensures.ranges c.args.height

@@ -1,7 +1,7 @@
 use Rattle.std.proofs.Common.{◌∙◌, ap}
 use Rattle.gp1_status.specs.Registers.{Registers}
 use Rattle.gpu_capture.specs.declared.event.Event.TheVariants.{Gp0}
-use Rattle.dead_drawing.specs.Control.{Control, controlled}
+use Rattle.dead_drawing.specs.Control.{Control, controlled, regs_after}
 use Rattle.capture_slim.specs.Effect.{event_effect}
 use Rattle.capture_slim.specs.Telling.{area_at}
 use Rattle.capture_slim.proofs.Registers.{inside_control, register_control, register_no_effect}
@@ -11,7 +11,7 @@ pub returns-then-passes-clause-control : goal.returns-then-passes-clause-control
 returns-then-passes-clause-control c =
     let k : Control = record { regs = c.self.inside.regs; pending = c.self.inside.splitter } in
     let f : Registers → Control = λ regs. record { regs = regs; pending = c.self.inside.splitter } in
-    ap f c.set_register.ensures
+    ap f (c.put.ensures ∙ ap (regs_after k.regs) c.decode_environment.ensures.value)
     ∙ register_control k c.args.word (c.passes.ensures.packet c.if-passes.true)
     (c.passes.ensures.class c.if-passes.true)
     ∙ ap (λ (k : Control). controlled k (Gp0 c.args.word)) c.self.view_is
