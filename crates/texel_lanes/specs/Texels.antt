@@ -5,12 +5,22 @@ use Rattle.px_num.specs.declared.shape.Cell.{Cell}
 use Rattle.texture_page.specs.Page.{texel_place, windowed, column, index_in}
 use Rattle.texel_lanes.specs.declared.texture.Coordinates.{Coordinates}
 use Rattle.texel_lanes.specs.declared.texture.Texture.{Texture}
-use Rattle.texel_lanes.specs.Texture.{at_cell, texel}
+use Rattle.texel_lanes.specs.Texture.{HasPage, IsTexture, at_cell, texel}
 
 -- sixteen coordinates of texels in one direction, each at most 255
 pub record AreCoordinates (coordinates : List ℕ) : Type 0 where
   pub long : length coordinates ≡ 16
   pub bytes : EachLane (λ i. slice_index coordinates i ≤ 255)
+
+-- What each read of texels takes: a texture whose page is in these rows of video memory, sixteen coordinates, and the
+-- number of those that are needed.
+pub record AreReadable (height : ℕ) (t : Texture) (at : Coordinates) (k : ℕ) : Type 0 where
+  pub texture : IsTexture t
+  pub page : HasPage height t
+  pub us : AreCoordinates at.us
+  pub vs : AreCoordinates at.vs
+  pub some : 1 ≤ k
+  pub few : k ≤ 16
 
 -- the cell of the texel of lane j
 abbrev pub lane_place : Texture → Coordinates → ℕ → Cell

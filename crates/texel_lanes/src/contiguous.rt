@@ -3,8 +3,8 @@ ghost use Rattle.std.specs.Prelude.{◌≡◌, IsTrue, ◌≤◌, ◌<◌, ◌+�
 ghost use Rattle.px_num.specs.Lanes.{EachLane, AreBytes};
 ghost use Rattle.vram_store.specs.Vram.{at, height_of};
 ghost use Rattle.texture_page.specs.Page.{column, index_in};
-ghost use Rattle.texel_lanes.specs.Texture.{HasPage, IsTexture};
-ghost use Rattle.texel_lanes.specs.Texels.{AreBeside, AreCoordinates, AreIndexes, AreTexels};
+ghost use Rattle.texel_lanes.specs.Texture.{IsTexture};
+ghost use Rattle.texel_lanes.specs.Texels.{AreBeside, AreCoordinates, AreIndexes, AreReadable, AreTexels};
 
 use crate::Texture;
 use crate::gather::{Gather, halfwords_of};
@@ -57,12 +57,9 @@ pub(crate) fn read_contiguous<L: Ledger>(
     k: u8,
     steps: &mut Steps<L>,
 ) -> u16x16
-    requires texture { IsTexture texture.now }
-    requires page { HasPage (height_of vram.now) texture.now }
-    requires at { AreCoordinates at.now.us × AreCoordinates at.now.vs }
+    requires readable { AreReadable (height_of vram.now) texture.now at.now k }
     requires depth { 2 ≤ texture.now.page.depth }
     requires beside { AreBeside texture.now at.now }
-    requires few { (1 ≤ k) × (k ≤ 16) }
     ensures long { length result ≡ 16 }
     ensures value { AreTexels texture.now at.now k vram.now result }
     ensures cost { steps.new ≤ steps.old + k }
@@ -126,9 +123,7 @@ fn contiguous_indexes<L: Ledger>(
     at: &Coordinates,
     steps: &mut Steps<L>,
 ) -> u8x16
-    requires texture { IsTexture texture.now }
-    requires page { HasPage (height_of vram.now) texture.now }
-    requires at { AreCoordinates at.now.us × AreCoordinates at.now.vs }
+    requires readable { AreReadable (height_of vram.now) texture.now at.now 16 }
     requires depth { texture.now.page.depth ≡ 0 }
     requires beside { AreBeside texture.now at.now }
     ensures indexes { AreIndexes texture.now at.now 16 vram.now result }
@@ -148,10 +143,7 @@ fn scattered_indexes<G: Gather, L: Ledger>(
     k: u8,
     steps: &mut Steps<L>,
 ) -> u8x16
-    requires texture { IsTexture texture.now }
-    requires page { HasPage (height_of vram.now) texture.now }
-    requires at { AreCoordinates at.now.us × AreCoordinates at.now.vs }
-    requires few { (1 ≤ k) × (k ≤ 16) }
+    requires { AreReadable (height_of vram.now) texture.now at.now k }
     ensures indexes { AreIndexes texture.now at.now k vram.now result }
     ensures cost { steps.new ≤ steps.old + k }
 {
@@ -171,11 +163,8 @@ pub fn indexes_of<G: Gather, L: Ledger>(
     k: u8,
     steps: &mut Steps<L>,
 ) -> u8x16
-    requires texture { IsTexture texture.now }
-    requires page { HasPage (height_of vram.now) texture.now }
-    requires at { AreCoordinates at.now.us × AreCoordinates at.now.vs }
+    requires readable { AreReadable (height_of vram.now) texture.now at.now k }
     requires depth { texture.now.page.depth ≡ 0 }
-    requires few { (1 ≤ k) × (k ≤ 16) }
     ensures indexes { AreIndexes texture.now at.now k vram.now result }
     ensures cost { steps.new ≤ steps.old + k }
 {

@@ -1,8 +1,8 @@
 // Texels at sixteen coordinates.
 ghost use Rattle.std.specs.Prelude.{◌≡◌, ◌≤◌, ◌<◌, ◌+◌, ◌*◌, ℕ, length, slice_index};
 ghost use Rattle.vram_store.specs.Vram.{height_of};
-ghost use Rattle.texel_lanes.specs.Texture.{HasPage, IsTexture, texel_steps};
-ghost use Rattle.texel_lanes.specs.Texels.{AreCoordinates, AreTexels};
+ghost use Rattle.texel_lanes.specs.Texture.{texel_steps};
+ghost use Rattle.texel_lanes.specs.Texels.{AreCoordinates, AreReadable, AreTexels};
 
 use crate::Texture;
 use crate::clut::{entries_at, gather_entries, sixteen_entries, table_of};
@@ -26,11 +26,8 @@ fn read_fours<G: Gather, L: Ledger>(
     k: u8,
     steps: &mut Steps<L>,
 ) -> u16x16
-    requires texture { IsTexture texture.now }
-    requires page { HasPage (height_of vram.now) texture.now }
-    requires at { AreCoordinates at.now.us × AreCoordinates at.now.vs }
+    requires readable { AreReadable (height_of vram.now) texture.now at.now k }
     requires depth { texture.now.page.depth ≡ 0 }
-    requires few { (1 ≤ k) × (k ≤ 16) }
     ensures long { length result ≡ 16 }
     ensures value { AreTexels texture.now at.now k vram.now result }
     ensures cost { steps.new ≤ steps.old + 2 * k }
@@ -49,11 +46,8 @@ fn read_eights<G: Gather, L: Ledger>(
     k: u8,
     steps: &mut Steps<L>,
 ) -> u16x16
-    requires texture { IsTexture texture.now }
-    requires page { HasPage (height_of vram.now) texture.now }
-    requires at { AreCoordinates at.now.us × AreCoordinates at.now.vs }
+    requires readable { AreReadable (height_of vram.now) texture.now at.now k }
     requires depth { texture.now.page.depth ≡ 1 }
-    requires few { (1 ≤ k) × (k ≤ 16) }
     ensures long { length result ≡ 16 }
     ensures value { AreTexels texture.now at.now k vram.now result }
     ensures cost { steps.new ≤ steps.old + 2 * k }
@@ -73,11 +67,8 @@ fn read_scattered<G: Gather, L: Ledger>(
     k: u8,
     steps: &mut Steps<L>,
 ) -> u16x16
-    requires texture { IsTexture texture.now }
-    requires page { HasPage (height_of vram.now) texture.now }
-    requires at { AreCoordinates at.now.us × AreCoordinates at.now.vs }
+    requires readable { AreReadable (height_of vram.now) texture.now at.now k }
     requires depth { 2 ≤ texture.now.page.depth }
-    requires few { (1 ≤ k) × (k ≤ 16) }
     ensures long { length result ≡ 16 }
     ensures value { AreTexels texture.now at.now k vram.now result }
     ensures cost { steps.new ≤ steps.old + k }
@@ -96,11 +87,8 @@ fn read_wholes<G: Gather, L: Ledger>(
     k: u8,
     steps: &mut Steps<L>,
 ) -> u16x16
-    requires texture { IsTexture texture.now }
-    requires page { HasPage (height_of vram.now) texture.now }
-    requires at { AreCoordinates at.now.us × AreCoordinates at.now.vs }
+    requires readable { AreReadable (height_of vram.now) texture.now at.now k }
     requires depth { 2 ≤ texture.now.page.depth }
-    requires few { (1 ≤ k) × (k ≤ 16) }
     ensures long { length result ≡ 16 }
     ensures value { AreTexels texture.now at.now k vram.now result }
     ensures cost { steps.new ≤ steps.old + k }
@@ -123,10 +111,7 @@ pub fn read_texels<G: Gather, L: Ledger>(
     k: u8,
     steps: &mut Steps<L>,
 ) -> u16x16
-    requires texture { IsTexture texture.now }
-    requires page { HasPage (height_of vram.now) texture.now }
-    requires at { AreCoordinates at.now.us × AreCoordinates at.now.vs }
-    requires few { (1 ≤ k) × (k ≤ 16) }
+    requires { AreReadable (height_of vram.now) texture.now at.now k }
     ensures long { length result ≡ 16 }
     ensures value { AreTexels texture.now at.now k vram.now result }
     ensures cost { steps.new ≤ steps.old + texel_steps texture.now.page.depth * k }
@@ -147,10 +132,8 @@ pub fn read_few<L: Ledger>(
     k: u8,
     steps: &mut Steps<L>,
 ) -> u16x16
-    requires texture { IsTexture texture.now }
-    requires page { HasPage (height_of vram.now) texture.now }
-    requires at { AreCoordinates at.now.us × AreCoordinates at.now.vs }
-    requires few { (1 ≤ k) × (k ≤ 8) }
+    requires readable { AreReadable (height_of vram.now) texture.now at.now k }
+    requires few { k ≤ 8 }
     ensures long { length result ≡ 16 }
     ensures value { AreTexels texture.now at.now k vram.now result }
     ensures cost { steps.new ≤ steps.old + texel_steps texture.now.page.depth * k }

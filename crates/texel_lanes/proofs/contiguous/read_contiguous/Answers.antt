@@ -11,4 +11,4 @@ pub returns-clause-value : goal.returns-clause-value
 returns-clause-value g c = λ j lt.
     let lane : j < 16 = omega arith in
     beside_texel c.args.texture.now c.args.at.now j _ c.args.vram.now c.requires.depth c.requires.beside
-    (c.requires.at.0.bytes j lane) (c.requires.at.1.bytes j lane) lane (c.load16.ensures.lanes.cells j lt)
+    (c.requires.readable.us.bytes j lane) (c.requires.readable.vs.bytes j lane) lane (c.load16.ensures.lanes.cells j lt)

@@ -3,11 +3,15 @@ use Rattle.span_lanes.proofs.CostLemmas.{free_cost, hazard_cost}
 use Rattle.span_lanes.proofs.PlanLemmas.{texels_here}
 use Rattle.span_lanes.proofs.rows.by_coords.draw_guarded.Goals as goal
 
-pub read_texels-texels-requires-clause-texture : goal.read_texels-texels-requires-clause-texture
-read_texels-texels-requires-clause-texture g c = rw c.requires.row_setup.texture at c.requires.can.span.texture
-
-pub read_texels-texels-requires-clause-page : goal.read_texels-texels-requires-clause-page
-read_texels-texels-requires-clause-page g c = rw c.requires.row_setup.texture at c.requires.can.lies.page
+pub read_texels-texels-requires : goal.read_texels-texels-requires
+read_texels-texels-requires g c = record {
+  texture = rw c.requires.row_setup.texture at c.requires.can.span.texture;
+  page = rw c.requires.row_setup.texture at c.requires.can.lies.page;
+  us = c.requires.at.across;
+  vs = c.requires.at.down;
+  some = c.requires.chunk.some;
+  few = c.requires.chunk.few;
+}
 
 pub draw_shaded-requires-clause-texels : goal.draw_shaded-requires-clause-texels
 draw_shaded-requires-clause-texels g c =

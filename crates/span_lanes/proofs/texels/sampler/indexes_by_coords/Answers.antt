@@ -4,11 +4,15 @@ use Rattle.texel_lanes.specs.Texture.{at_cell}
 use Rattle.texel_lanes.proofs.TexelLemmas.{texel_four}
 use Rattle.span_lanes.proofs.texels.sampler.indexes_by_coords.Goals as goal
 
-pub indexes_of-requires-clause-texture : goal.indexes_of-requires-clause-texture
-indexes_of-requires-clause-texture g c = rw c.requires.can.sample.texture at c.requires.can.sample.can.span.texture
-
-pub indexes_of-requires-clause-page : goal.indexes_of-requires-clause-page
-indexes_of-requires-clause-page g c = rw c.requires.can.sample.texture at c.requires.can.sample.can.lies.page
+pub indexes_of-requires-clause-readable : goal.indexes_of-requires-clause-readable
+indexes_of-requires-clause-readable g c = record {
+  texture = rw c.requires.can.sample.texture at c.requires.can.sample.can.span.texture;
+  page = rw c.requires.can.sample.texture at c.requires.can.sample.can.lies.page;
+  us = c.coordinates-at.ensures.across;
+  vs = c.coordinates-at.ensures.down;
+  some = c.requires.can.chunk.some;
+  few = c.requires.can.chunk.few;
+}
 
 pub returns-clause-indexes : goal.returns-clause-indexes
 returns-clause-indexes g c =
