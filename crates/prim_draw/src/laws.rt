@@ -18,7 +18,7 @@ pub fn costs_are_small()
 /// - the whole square, semi-transparent.
 pub fn some_costs()
     ensures smeared { draw_cost (open_registers 0x100) (raw_rectangle 1 0 4 1) ≤ 12 }
-    ensures own_palette { draw_cost (open_registers 1) (raw_rectangle 0 0 3 1) ≤ 12 }
+    ensures own_clut { draw_cost (open_registers 1) (raw_rectangle 0 0 3 1) ≤ 12 }
     ensures far { draw_cost (open_registers 0x110) (raw_rectangle 0 0 32 1) ≤ 36 }
     ensures half { draw_cost (open_registers 0) (white_half false false) ≤ 16 }
     ensures square { draw_cost (open_registers 0) (white_half true true) ≤ 30 }

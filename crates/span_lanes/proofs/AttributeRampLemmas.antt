@@ -32,30 +32,30 @@ abbrev pub FromPlane : Plane → (x y : ℕ) → (lanes : List ℕ) → Type 0
 FromPlane plane x y lanes = (t : Corners) (which : ℕ) → IsPlane t which plane → AreAttributes t which x y lanes
 
 -- the texel coordinates
-of_paint : (paint : Paint) (x y n first k : ℕ) (coord_planes : CoordRamps) (us vs : List ℕ) → 1 ≤ n
+of_paint : (paint : Paint) (x y n first k : ℕ) (coord_ramps : CoordRamps) (us vs : List ℕ) → 1 ≤ n
     → HasInside paint x y n
-    → first + k ≤ n → k ≤ 16 → AreCoordRampsOf paint coord_planes → AreCoordinates us → AreCoordinates vs
-    → FromPlane coord_planes.u.plane (x + first) y us → FromPlane coord_planes.v.plane (x + first) y vs
+    → first + k ≤ n → k ≤ 16 → AreCoordRampsOf paint coord_ramps → AreCoordinates us → AreCoordinates vs
+    → FromPlane coord_ramps.u.plane (x + first) y us → FromPlane coord_ramps.v.plane (x + first) y vs
     → HasCoordinates (columns_from paint (x + first) y first) (rows_from paint (x + first) y first) k us vs
-of_paint (Flat color) x y n first k coord_planes us vs some inside within few of across down u v = absurd (of)
-of_paint (Shaded tri) x y n first k coord_planes us vs some inside within few of across down u v = absurd (of)
-of_paint (TexturedTri tri texture) x y n first k coord_planes us vs some inside within few of across down u v = record {
+of_paint (Flat color) x y n first k coord_ramps us vs some inside within few of across down u v = absurd (of)
+of_paint (Shaded tri) x y n first k coord_ramps us vs some inside within few of across down u v = absurd (of)
+of_paint (TexturedTri tri texture) x y n first k coord_ramps us vs some inside within few of across down u v = record {
   across = across;
   down = down;
   u = part_lanes tri 3 x y n first k us some inside within few (u tri 3 of.u);
   v = part_lanes tri 4 x y n first k vs some inside within few (v tri 4 of.v);
 }
-of_paint (TexturedRow color texture u0 v0 flip) x y n first k coord_planes us vs some inside within few of across down u
+of_paint (TexturedRow color texture u0 v0 flip) x y n first k coord_ramps us vs some inside within few of across down u
     v =
     absurd (of)
 
-pub coordinates_of : (p : Chunk) (coord_planes : CoordRamps) (us vs : List ℕ) → IsSpan p.span.now → IsChunk p
-    → AreCoordRampsOf p.span.now.paint coord_planes → AreCoordinates us → AreCoordinates vs
-    → FromPlane coord_planes.u.plane (p.span.now.x + p.first) p.span.now.y us
-    → FromPlane coord_planes.v.plane (p.span.now.x + p.first) p.span.now.y vs
+pub coordinates_of : (p : Chunk) (coord_ramps : CoordRamps) (us vs : List ℕ) → IsSpan p.span.now → IsChunk p
+    → AreCoordRampsOf p.span.now.paint coord_ramps → AreCoordinates us → AreCoordinates vs
+    → FromPlane coord_ramps.u.plane (p.span.now.x + p.first) p.span.now.y us
+    → FromPlane coord_ramps.v.plane (p.span.now.x + p.first) p.span.now.y vs
     → HasCoordinates (chunk_u p) (chunk_v p) p.k us vs
-coordinates_of p coord_planes us vs is chunk of across down u v =
-    of_paint p.span.now.paint p.span.now.x p.span.now.y p.span.now.n p.first p.k coord_planes us vs is.some is.inside
+coordinates_of p coord_ramps us vs is chunk of across down u v =
+    of_paint p.span.now.paint p.span.now.x p.span.now.y p.span.now.n p.first p.k coord_ramps us vs is.some is.inside
     chunk.within chunk.few of
     across down u v
 

@@ -19,7 +19,7 @@ use Rattle.vram_store.specs.Chunk.{AgreesApart, IsBlind}
 use Rattle.texel_lanes.specs.Texture.{at_cell, texel}
 use Rattle.span_lanes.specs.Shade.{IsSpan, row_u, paint_pixel, shade, flat_pixel, dither_of, color_in}
 use Rattle.span_lanes.specs.Shade.{attribute_in}
-use Rattle.span_lanes.specs.Guard.{paint_texel, paint_texels, target, clut_strip, palette_of, PaintHazard, HasHazard}
+use Rattle.span_lanes.specs.Guard.{paint_texel, paint_texels, target, clut_strip, clut_of, PaintHazard, HasHazard}
 
 -- a cell that none of j lanes of a row writes
 pub same_cell : (m now : List ℕ) (x y j cx cy : ℕ) → AgreesApart (1024 * y + x) j m now → cx < 1024 → x + j ≤ 1024
@@ -39,12 +39,12 @@ same_cell m now x y j cx cy agree low room hazard_free = elim (cases_lt cy y) [
 ]
 
 -- the CLUT of a depth
-abbrev palette_at : ℕ → ℕ → (Cell → ℕ → Type 0)
-palette_at depth clut target n =
+abbrev clut_at : ℕ → ℕ → (Cell → ℕ → Type 0)
+clut_at depth clut target n =
     MatchOption (cond (eqb depth 0) (Some (clut_strip clut 16)) (cond (eqb depth 1) (Some (clut_strip clut 256)) None))
     ⊥ (λ strip. HasStripHazard strip target n)
 
-entry_apart : (depth clut u h : ℕ) (target : Cell) (n : ℕ) → depth < 2 → (palette_at depth clut target n → ⊥)
+entry_apart : (depth clut u h : ℕ) (target : Cell) (n : ℕ) → depth < 2 → (clut_at depth clut target n → ⊥)
     → (i : ℕ) → i < n → (clut % 64 * 16 + index_in depth u h) % 1024 ≡ target.x + i → (clut_place clut 0).y ≡ target.y
     → ⊥
 entry_apart zero clut u h target n low none i lt across down = none
@@ -65,10 +65,10 @@ texel_same : (t : Texture) (u v : ℕ) (m now : List ℕ) (x y j k : ℕ) → Ag
     → j < k
     → ((i : ℕ) → i < j → Writes (record { x = x; y = y }) i (texel_place t.page t.window u v).x
     (texel_place t.page t.window u v).y → ⊥)
-    → (palette_at t.page.depth t.clut (record { x = x; y = y }) k → ⊥)
+    → (clut_at t.page.depth t.clut (record { x = x; y = y }) k → ⊥)
     → texel t u v now ≡ texel t u v m
 unfolding texel
-texel_same t u v m now x y j k agree room lt hazard_free none = choose (ltb t.page.depth 2) _ _ _ _ palette direct
+texel_same t u v m now x y j k agree room lt hazard_free none = choose (ltb t.page.depth 2) _ _ _ _ indexed direct
   where
     cell : Cell
     cell = texel_place t.page t.window u v
@@ -84,16 +84,16 @@ texel_same t u v m now x y j k agree room lt hazard_free none = choose (ltb t.pa
         (λ i less e f. entry_apart t.page.depth t.clut (windowed t.window.mask_x t.window.off_x u) h
         (record { x = x; y = y }) k low none i (omega arith) e f)
 
-    palette : ltb t.page.depth 2 ≡ true
+    indexed : ltb t.page.depth 2 ≡ true
         → at_cell now (clut_place t.clut (index_at t.page t.window u (at_cell now (texel_place t.page t.window u v))))
         ≡ at_cell m (clut_place t.clut (index_at t.page t.window u (at_cell m (texel_place t.page t.window u v))))
-    palette e =
+    indexed e =
         ap (λ (h : ℕ). at_cell now (clut_place t.clut (index_at t.page t.window u h))) direct
         ∙ entry (at_cell m (texel_place t.page t.window u v)) (low_depth t.page.depth e)
 
 -- the texels of a chunk, from their cells
 module _ (t : Texture) (f : ℕ → Cell) (x y first k : ℕ) (room : x + first + k ≤ 1024)
-    (none : HasTextureHazard (map f (range_with_len first k)) (palette_of t) (target x y first) k → ⊥)
+    (none : HasTextureHazard (map f (range_with_len first k)) (clut_of t) (target x y first) k → ⊥)
     (m now : List ℕ) (j : ℕ) (lt : j < k) (agree : AgreesApart (1024 * y + (x + first)) j m now) where
   pub texel_blind : (u v : ℕ) → f (first + j) ≡ texel_place t.page t.window u v → texel t u v now ≡ texel t u v m
   texel_blind u v e =

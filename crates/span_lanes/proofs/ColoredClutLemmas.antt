@@ -9,21 +9,22 @@ use Rattle.texel_lanes.specs.declared.texture.Texture.{Texture}
 use Rattle.span_lanes.specs.declared.clut.modulated.ColoredClut.{ColoredClut}
 use Rattle.overlap_guard.specs.Hazard.{HasStripHazard}
 use Rattle.texel_lanes.specs.Texture.{at_cell}
-use Rattle.span_lanes.specs.Guard.{clut_strip, palette_of, target, HasHazard}
+use Rattle.span_lanes.specs.Guard.{clut_strip, clut_of, target, HasHazard}
 use Rattle.span_lanes.specs.Shade.{texture_of}
 use Rattle.span_lanes.specs.declared.span.Span.{Span}
 use Rattle.std.specs.Option.{MatchOption}
-use Rattle.span_lanes.specs.ColoredClut.{IsColoredClut, AreClutEntries, IsColoredClutOf, HasPalette, IsPalette}
+use Rattle.span_lanes.specs.ColoredClut.{IsColoredClut, AreClutEntries, IsColoredClutOf, IsColoredClutFor}
+use Rattle.span_lanes.specs.ColoredClut.{HasColoredClut}
 use Rattle.span_lanes.specs.ColoredClut.{AreEntriesOf, IsColoredBy}
 use Rattle.span_lanes.specs.ColoredClut256.{IsColoredClut256Of}
 use Rattle.span_lanes.proofs.BlindLemmas.{same_cell}
 
 -- a chunk of a span without a hazard has no cell of the CLUT
 pub clut_missed : (span : Span) (t : Texture) (first k n : ℕ) → texture_of span.paint ≡ Some t
-    → palette_of t ≡ Some (clut_strip t.clut n)
+    → clut_of t ≡ Some (clut_strip t.clut n)
     → (HasHazard span first k → ⊥) → HasStripHazard (clut_strip t.clut n) (target span.x span.y first) k → ⊥
 clut_missed span t first k n of_paint is none hazard =
-    let strip : MatchOption (palette_of t) ⊥ (λ strip. HasStripHazard strip (target span.x span.y first) k)
+    let strip : MatchOption (clut_of t) ⊥ (λ strip. HasStripHazard strip (target span.x span.y first) k)
     = rw is hazard in
     none (rw of_paint (inr strip))
 
@@ -59,10 +60,10 @@ swatches256_kept t x y k color m now words agree room none is = record {
   front = is.front;
 }
 
-pub palette_is : (t : Texture) (m : List ℕ) (color : ℕ) (s : ColoredClut) → IsColoredClut s
+pub clut_is : (t : Texture) (m : List ℕ) (color : ℕ) (s : ColoredClut) → IsColoredClut s
     → AreClutEntries t m s.entries
-    → s.raw ≡ t.raw → s.color ≡ color → IsPalette t m color s
-palette_is t m color s colored entries raw color_is = record {
+    → s.raw ≡ t.raw → s.color ≡ color → IsColoredClutFor t m color s
+clut_is t m color s colored entries raw color_is = record {
   colored = colored;
   colored_clut = record {
     entries = colored.entries;
@@ -74,10 +75,10 @@ palette_is t m color s colored entries raw color_is = record {
   color = color_is;
 }
 
-pub palette_kept : (t : Texture) (m : List ℕ) (color : ℕ) (last : Option ColoredClut) → IfSome last IsColoredClut
-    → IfSome last (λ s. AreClutEntries t m s.entries) → IsColoredBy last t.raw color → HasPalette t m color last
-palette_kept t m color None colored entries under = absurd under
-palette_kept t m color (Some s) colored entries under = palette_is t m color s colored entries under.0 under.1
+pub clut_kept : (t : Texture) (m : List ℕ) (color : ℕ) (last : Option ColoredClut) → IfSome last IsColoredClut
+    → IfSome last (λ s. AreClutEntries t m s.entries) → IsColoredBy last t.raw color → HasColoredClut t m color last
+clut_kept t m color None colored entries under = absurd under
+clut_kept t m color (Some s) colored entries under = clut_is t m color s colored entries under.0 under.1
 
 -- what holds for the entries before a piece of sixteen, and for the piece, holds for all of them
 pub piece_more : (P : ℕ → Type 0) (piece : ℕ) → ((i : ℕ) → i < 16 * piece → P i)

@@ -3,7 +3,7 @@ use Rattle.std.proofs.Common.{◌≡◌, ◌≤◌, ℕ, zero, suc, List, Option
 use Rattle.std.proofs.Common.{◌*◌, ◌/◌, min, refl, subst, add-one, arith}
 use Rattle.texel_lanes.specs.declared.texture.Texture.{Texture}
 use Rattle.span_lanes.specs.declared.span.Span.{Span}
-use Rattle.span_lanes.specs.Guard.{has_hazard, paint_texels, palette_of, target}
+use Rattle.span_lanes.specs.Guard.{has_hazard, paint_texels, clut_of, target}
 use Rattle.span_lanes.specs.Shade.{texture_of}
 use Rattle.overlap_guard.specs.Hazard.{has_texture_hazard}
 use Rattle.px_num.specs.declared.shape.Cell.{Cell}
@@ -70,7 +70,7 @@ toned_cost span first k e = rw e refl
 -- chunks whose texel cells are known
 pub textured_cost : (span : Span) (t : Texture) (first k : ℕ) (cells : List Cell) → texture_of span.paint ≡ Some t
     → paint_texels span.paint t span.x span.y first k ≡ cells
-    → chunk_cost span first k ≡ steps_of (has_texture_hazard cells (palette_of t) (target span.x span.y first) k)
+    → chunk_cost span first k ≡ steps_of (has_texture_hazard cells (clut_of t) (target span.x span.y first) k)
     (texel_steps t.page.depth) k
 unfolding has_hazard
 textured_cost span t first k cells e same = rw (e, same) refl

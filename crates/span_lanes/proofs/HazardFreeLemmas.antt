@@ -15,7 +15,7 @@ use Rattle.texel_lanes.specs.declared.texture.Texture.{Texture}
 use Rattle.span_lanes.specs.declared.span.Span.{Span}
 use Rattle.texel_lanes.specs.Texture.{IsTexture}
 use Rattle.span_lanes.specs.Shade.{IsSpan, texture_of}
-use Rattle.span_lanes.specs.Guard.{paint_texel, paint_texels, target, palette_of, page_width, IsHazardFree}
+use Rattle.span_lanes.specs.Guard.{paint_texel, paint_texels, target, clut_of, page_width, IsHazardFree}
 use Rattle.span_lanes.specs.Guard.{LiesOutsideClut, LiesOutsidePage, LiesOutsideStrip}
 use Rattle.span_lanes.specs.HazardFree.{AreTexelsApart}
 
@@ -52,9 +52,9 @@ texel_apart t x y n u v cx is (inr (inr left)) room low high across down =
     omega (arith, col, left.0, left.1)
 
 -- a chunk of a row that has no cell of the CLUT
-strip_apart : (palette : Option Strip) (x y n first k : ℕ)
-    → IfSome palette (λ strip. LiesOutsideStrip strip x y n) → x + n ≤ 1024 → first + k ≤ n
-    → MatchOption palette ⊥ (λ strip. HasStripHazard strip (target x y first) k) → ⊥
+strip_apart : (clut : Option Strip) (x y n first k : ℕ)
+    → IfSome clut (λ strip. LiesOutsideStrip strip x y n) → x + n ≤ 1024 → first + k ≤ n
+    → MatchOption clut ⊥ (λ strip. HasStripHazard strip (target x y first) k) → ⊥
 strip_apart None x y n first k apart room within h = h
 strip_apart (Some strip) x y n first k (inl other) room within h = other h.2.2.1
 strip_apart (Some strip) x y n first k (inr (inl right)) room within h =
@@ -78,7 +78,7 @@ unfolding paint_texels
 chunks_free span t is of_paint texels off = record {
   free = λ first n cut few within h. elim (rw of_paint at h) [
     | inl read ↦ read_none first n cut few within read
-    | inr strip ↦ strip_apart (palette_of t) span.x span.y span.n first n off is.in_row within strip
+    | inr strip ↦ strip_apart (clut_of t) span.x span.y span.n first n off is.in_row within strip
   ];
 }
   where

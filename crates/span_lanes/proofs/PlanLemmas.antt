@@ -10,7 +10,7 @@ use Rattle.texel_lanes.specs.Texture.{texel, texel_steps}
 use Rattle.span_lanes.specs.Shade.{texture_of}
 use Rattle.span_lanes.specs.Cost.{chunk_cost}
 use Rattle.span_lanes.specs.Draws.{IsChunk}
-use Rattle.span_lanes.specs.Guard.{has_hazard, paint_texels, palette_of, target, IsHazardFree}
+use Rattle.span_lanes.specs.Guard.{has_hazard, paint_texels, clut_of, target, IsHazardFree}
 use Rattle.texel_lanes.specs.Texels.{AreCoordinates}
 use Rattle.span_lanes.specs.Lanes.{HasCoordinates, columns_from, rows_from}
 use Rattle.span_lanes.specs.RowSetup.{HasTexels}
@@ -53,7 +53,7 @@ apart_free p t is hazard_free of_paint =
     let span = p.span.now in
     let texels = paint_texels span.paint t span.x span.y p.first p.k in
     let to = target span.x span.y p.first in
-    rw of_paint (false_of (has_texture_hazard texels (palette_of t) to p.k) (texture_iff texels (palette_of t) to p.k)
+    rw of_paint (false_of (has_texture_hazard texels (clut_of t) to p.k) (texture_iff texels (clut_of t) to p.k)
     (λ h. hazard_free.free p.first p.k is.cut is.few is.within (rw of_paint h)))
 
 -- the cost of a chunk of a span without a hazard

@@ -8,9 +8,9 @@ use Rattle.span_lanes.specs.declared.span.Paint.{Paint}
 use Rattle.span_lanes.specs.declared.span.Paint.TheVariants.{Shaded, TexturedTri}
 
 -- the texel coordinates of a triangle
-pub record AreCoordRamps (tri : Corners) (coord_planes : CoordRamps) : Type 0 where
-  pub u : IsPlane tri 3 coord_planes.u.plane
-  pub v : IsPlane tri 4 coord_planes.v.plane
+pub record AreCoordRamps (tri : Corners) (coord_ramps : CoordRamps) : Type 0 where
+  pub u : IsPlane tri 3 coord_ramps.u.plane
+  pub v : IsPlane tri 4 coord_ramps.v.plane
 
 -- the colour channels of a triangle
 pub record AreColorRamps (tri : Corners) (colors : ColorRamps) : Type 0 where
@@ -20,8 +20,8 @@ pub record AreColorRamps (tri : Corners) (colors : ColorRamps) : Type 0 where
 
 -- the texel coordinates of a paint that is a textured triangle
 abbrev pub AreCoordRampsOf : Paint → CoordRamps → Type 0
-AreCoordRampsOf (TexturedTri tri texture) coord_planes = AreCoordRamps tri coord_planes
-AreCoordRampsOf paint coord_planes = ⊥
+AreCoordRampsOf (TexturedTri tri texture) coord_ramps = AreCoordRamps tri coord_ramps
+AreCoordRampsOf paint coord_ramps = ⊥
 
 -- the colour channels of a paint that is a triangle
 abbrev pub AreColorsOf : Paint → ColorRamps → Type 0
@@ -31,5 +31,5 @@ AreColorsOf paint colors = ⊥
 
 -- coordinates and channels of a paint that is a textured triangle
 pub record AreAttributeRampsOf (paint : Paint) (ramps : AttributeRamps) : Type 0 where
-  pub coord_planes : AreCoordRampsOf paint ramps.coord_planes
+  pub coord_ramps : AreCoordRampsOf paint ramps.coord_ramps
   pub colors : AreColorsOf paint ramps.colors

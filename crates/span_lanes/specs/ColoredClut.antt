@@ -46,16 +46,16 @@ pub record IsCached (paint : Paint) (m : List ℕ) (last : Option ColoredClut) :
   pub fresh : IfSome last (λ s. IfSome (texture_of paint) (λ t. AreClutEntries t m s.entries))
 
 -- the CLUT of a texture in video memory, modulated by a colour
-pub record IsPalette (t : Texture) (m : List ℕ) (shading : ℕ) (s : ColoredClut) : Type 0 where
+pub record IsColoredClutFor (t : Texture) (m : List ℕ) (shading : ℕ) (s : ColoredClut) : Type 0 where
   pub colored : IsColoredClut s
   pub colored_clut : IsColoredClutOf t m s
   pub raw : s.raw ≡ t.raw
   pub color : s.color ≡ shading
 
 -- such a CLUT is cached
-abbrev pub HasPalette : Texture → (m : List ℕ) → (shading : ℕ) → Option ColoredClut → Type 0
-HasPalette t m shading None = ⊥
-HasPalette t m shading (Some s) = IsPalette t m shading s
+abbrev pub HasColoredClut : Texture → (m : List ℕ) → (shading : ℕ) → Option ColoredClut → Type 0
+HasColoredClut t m shading None = ⊥
+HasColoredClut t m shading (Some s) = IsColoredClutFor t m shading s
 
 -- the cached CLUT is modulated by this colour, or raw
 abbrev pub IsColoredBy : Option ColoredClut → (raw : Bool) → (color : ℕ) → Type 0

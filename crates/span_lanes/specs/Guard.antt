@@ -28,8 +28,8 @@ abbrev pub clut_strip : ℕ → ℕ → Strip
 clut_strip clut n = record { x = clut % 64 * 16; y = clut_row clut; n = n }
 
 -- the CLUT that a texture reads: sixteen entries at depth 0, 256 at depth 1
-abbrev pub palette_of : Texture → Option Strip
-palette_of t =
+abbrev pub clut_of : Texture → Option Strip
+clut_of t =
     if t.page.depth == 0 then Some (clut_strip t.clut 16)
     else (if t.page.depth == 1 then Some (clut_strip t.clut 256)
     else None)
@@ -43,7 +43,7 @@ target x y first = record { x = x + first; y = y }
 abbrev pub PaintHazard : Paint → ℕ → ℕ → ℕ → ℕ → Type 0
 PaintHazard paint x y first n =
     MatchOption (texture_of paint) ⊥
-    (λ t. HasTextureHazard (paint_texels paint t x y first n) (palette_of t) (target x y first) n)
+    (λ t. HasTextureHazard (paint_texels paint t x y first n) (clut_of t) (target x y first) n)
 
 -- n cells of a span, from cell `first` on, have a hazard
 abbrev pub HasHazard : Span → ℕ → ℕ → Type 0
@@ -54,7 +54,7 @@ HasHazard span first n = PaintHazard span.paint span.x span.y first n
 abbrev pub has_paint_hazard : Option Texture → Paint → ℕ → ℕ → ℕ → ℕ → Bool
 has_paint_hazard None paint x y first n = false
 has_paint_hazard (Some t) paint x y first n =
-    has_texture_hazard (paint_texels paint t x y first n) (palette_of t) (target x y first) n
+    has_texture_hazard (paint_texels paint t x y first n) (clut_of t) (target x y first) n
 
 unfoldable pub has_hazard : Span → ℕ → ℕ → Bool
 has_hazard span first n = has_paint_hazard (texture_of span.paint) span.paint span.x span.y first n
@@ -90,7 +90,7 @@ LiesOutsideStrip strip x y n = (strip.y ≢ y) ⊎ LiesOutsideColumns strip.x st
 
 -- n cells of a row from (x, y) on are none of a texture's CLUT, if it has one
 abbrev pub LiesOutsideClut : Texture → ℕ → ℕ → ℕ → Type 0
-LiesOutsideClut t x y n = IfSome (palette_of t) (λ strip. LiesOutsideStrip strip x y n)
+LiesOutsideClut t x y n = IfSome (clut_of t) (λ strip. LiesOutsideStrip strip x y n)
 
 -- no chunk of a span has a hazard; a chunk is up to sixteen cells, the number of the first a multiple of sixteen
 pub record IsHazardFree (span : Span) : Type 0 where

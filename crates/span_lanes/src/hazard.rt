@@ -3,7 +3,7 @@ ghost use Rattle.std.specs.Prelude.{ℕ, ◌≡◌, ◌≤◌, ◌<◌, ◌+◌,
 ghost use Rattle.texel_lanes.specs.Texture.{IsTexture};
 ghost use Rattle.span_lanes.specs.Shade.{IsSpan, texture_of};
 ghost use Rattle.span_lanes.specs.Guard.{IsHazardFree, LiesOutsideClut, LiesOutsideColumns, LiesOutsidePage};
-ghost use Rattle.span_lanes.specs.Guard.{LiesOutsideStrip, page_width, texel_cells, palette_of, clut_strip};
+ghost use Rattle.span_lanes.specs.Guard.{LiesOutsideStrip, page_width, texel_cells, clut_of, clut_strip};
 ghost use Rattle.span_lanes.specs.ClipRect.{IsClipRect, IsInClip, IsClipHazardFree};
 ghost use Rattle.overlap_guard.specs.Hazard.{HasTextureHazard, has_texture_hazard};
 ghost use Rattle.texel_lanes.specs.Texels.{AreCoordinates};
@@ -72,7 +72,7 @@ pub(crate) fn is_off_clut(span: &Span, texture: &Texture) -> bool
     requires span { IsSpan span.now }
     ensures { IsTrue result → LiesOutsideClut texture.now span.now.x span.now.y span.now.n }
 {
-    match palette(texture) {
+    match clut_of(texture) {
         None => true,
         Some(strip) => is_off_strip(span, &strip),
     }
@@ -115,7 +115,7 @@ pub(crate) fn is_clip_off_clut(clip_rect: &ClipRect, texture: &Texture) -> bool
     requires clip_rect { IsClipRect 1024 clip_rect.now }
     ensures { IsTrue result → (x y n : ℕ) → IsInClip clip_rect.now x y n → LiesOutsideClut texture.now x y n }
 {
-    match palette(texture) {
+    match clut_of(texture) {
         None => true,
         Some(strip) => is_clip_off_strip(clip_rect, &strip),
     }
@@ -132,8 +132,8 @@ pub(crate) fn is_clip_hazard_free(clip_rect: &ClipRect, texture: &Texture) -> bo
 }
 
 // Returns the cells of the texture's CLUT, if it has one. Their columns wrap at 1024.
-fn palette(texture: &Texture) -> Option<Strip>
-    ensures value { result ≡ palette_of texture.now }
+fn clut_of(texture: &Texture) -> Option<Strip>
+    ensures value { result ≡ clut_of texture.now }
     ensures fits { IfSome result (λ strip. (strip.x ≤ 1024) × (strip.n ≤ 1024)) }
 {
     match texture.page.depth {
@@ -165,12 +165,12 @@ pub(crate) fn reads_itself(texture: &Texture, at: &Coordinates, to: Cell, k: u8)
     requires few { k ≤ 16 }
     requires target { to.x + k ≤ 1024 }
     ensures pairs { IsTrue result
-        ↔ HasTextureHazard (texel_cells texture.now at.now.us at.now.vs k) (palette_of texture.now) to k }
+        ↔ HasTextureHazard (texel_cells texture.now at.now.us at.now.vs k) (clut_of texture.now) to k }
     ensures value { result
-        ≡ has_texture_hazard (texel_cells texture.now at.now.us at.now.vs k) (palette_of texture.now) to k }
+        ≡ has_texture_hazard (texel_cells texture.now at.now.us at.now.vs k) (clut_of texture.now) to k }
 {
     let places = texel_cells_of(texture, at);
-    lanes_hazard(places.xs, places.ys, palette(texture), to, k)
+    lanes_hazard(places.xs, places.ys, clut_of(texture), to, k)
 }
 
 // Returns true only if no cell of a span has its texel in the column of an earlier cell of its chunk. The texels must

@@ -20,6 +20,6 @@ pub fn span_cost_is_small()
 /// - 32 15-bit texels in another row.
 pub fn some_costs()
     ensures smeared { span_cost (raw_row (record { x = 0; y = 0; depth = 2 }) 1 0 4) ≤ 12 }
-    ensures own_palette { span_cost (raw_row (record { x = 64; y = 0; depth = 0 }) 0 0 3) ≤ 12 }
+    ensures own_clut { span_cost (raw_row (record { x = 64; y = 0; depth = 0 }) 0 0 3) ≤ 12 }
     ensures far { span_cost (raw_row (record { x = 0; y = 256; depth = 2 }) 0 0 32) ≤ 36 }
 {}

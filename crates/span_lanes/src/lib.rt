@@ -2,7 +2,7 @@
 //!
 //! A span is one or more consecutive cells of a row, drawn from left to right. Every pixel reads video memory as it is
 //! when that pixel is drawn (our own rule). It reads its own cell if it is blended or tested, its texel, and the
-//! CLUT (palette) entry of the texel.
+//! CLUT entry of the texel.
 //!
 //! A span is cut from its left into chunks of sixteen cells; the last may be shorter. A chunk has a hazard if one of
 //! its cells is in the CLUT, or contains the texel of a later cell of the chunk. A chunk without a hazard is read as

@@ -35,7 +35,7 @@ pub(crate) struct ColorRamps {
 // All five attributes.
 #[derive(Clone, Copy)]
 pub(crate) struct AttributeRamps {
-    pub(crate) coord_planes: CoordRamps,
+    pub(crate) coord_ramps: CoordRamps,
     pub(crate) colors: ColorRamps,
 }
 
@@ -84,18 +84,18 @@ pub(crate) fn color_ramps_of(tri: &Tri, divisor: &Divisor) -> ColorRamps
 #[inline(always)]
 pub(crate) fn attribute_ramps_of(tri: &Tri, divisor: &Divisor) -> AttributeRamps
     requires divisor { divisor.now ≡ divisor_for tri.now }
-    ensures coord_planes { AreCoordRamps tri.now result.coord_planes }
+    ensures coord_ramps { AreCoordRamps tri.now result.coord_ramps }
     ensures colors { AreColorRamps tri.now result.colors }
 {
     let setup = tri.attribute_setup(divisor);
     AttributeRamps {
-        coord_planes: coord_ramps_with(&setup),
+        coord_ramps: coord_ramps_with(&setup),
         colors: color_ramps_with(&setup),
     }
 }
 
 impl CoordSource for CoordRamps {
-    ghost places = { λ coord_planes s. AreCoordRampsOf s.paint coord_planes };
+    ghost places = { λ coord_ramps s. AreCoordRampsOf s.paint coord_ramps };
 
     #[inline(always)]
     fn coordinates(&self, chunk: &Chunk) -> Coordinates {
@@ -122,7 +122,7 @@ impl ColorSource for ColorRamps {
 }
 
 impl Sampler for CoordRamps {
-    ghost finds = { λ coord_planes s t. AreCoordRampsOf s.paint coord_planes };
+    ghost finds = { λ coord_ramps s t. AreCoordRampsOf s.paint coord_ramps };
 
     #[inline(always)]
     fn read_texels<L: Ledger>(
@@ -137,7 +137,7 @@ impl Sampler for CoordRamps {
 }
 
 impl IndexSampler for CoordRamps {
-    ghost finds = { λ coord_planes s t. AreCoordRampsOf s.paint coord_planes };
+    ghost finds = { λ coord_ramps s t. AreCoordRampsOf s.paint coord_ramps };
 
     #[inline(always)]
     fn read_indexes<L: Ledger>(

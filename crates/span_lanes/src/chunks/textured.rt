@@ -124,7 +124,7 @@ pub(crate) struct Raw<S> {
 
 // Draws texels, modulated by their colours unless raw.
 #[derive(Clone, Copy)]
-pub(crate) struct Shaded<S> {
+pub(crate) struct ShadedTexels<S> {
     pub(crate) texture: Texture,
     pub(crate) sampler: S,
     pub(crate) shading: RowShading,
@@ -159,7 +159,7 @@ impl<S: Sampler> ChunkDrawer for Raw<S> {
     ghost can = { λ c s m serves. serves.0.sample.can };
 }
 
-impl<S: Sampler> ChunkDrawer for Shaded<S> {
+impl<S: Sampler> ChunkDrawer for ShadedTexels<S> {
     ghost use Rattle.span_lanes.specs.CachedClut.{CanTakeTexels};
     ghost use Rattle.span_lanes.specs.RowSetup.{IsRowShading};
 

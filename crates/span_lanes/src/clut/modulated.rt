@@ -5,7 +5,8 @@ ghost use Rattle.span_lanes.specs.Draws.{IsChunk};
 ghost use Rattle.span_lanes.specs.Lanes.{AreDitherLanesAt};
 ghost use Rattle.span_lanes.specs.RowSetup.{AreModulated, IsRowSetup};
 ghost use Rattle.span_lanes.specs.Shade.{IsSpan, modulated_texel};
-ghost use Rattle.span_lanes.specs.ColoredClut.{IsColoredClut, AreClutEntries, HasPalette, IsColoredBy, CanCacheClut};
+ghost use Rattle.span_lanes.specs.ColoredClut.{IsColoredClut, AreClutEntries, HasColoredClut, IsColoredBy};
+ghost use Rattle.span_lanes.specs.ColoredClut.{CanCacheClut};
 ghost use Rattle.texel_lanes.specs.Table.{entry_at};
 
 use crate::attributes::color_lanes::{
@@ -108,7 +109,7 @@ fn is_colored_by(last: &Option<ColoredClut>, raw: bool, color: u32) -> bool
 // Makes `last` the texture's CLUT, modulated by `color`, or unchanged if the texture is raw. Reads nothing if `last`
 // is already so. Entries in `last` must equal those in video memory. Costs at most one step.
 #[inline(always)]
-#[tactic(auto, using(crate::proofs::ColoredClutLemmas::palette_is, crate::proofs::ColoredClutLemmas::palette_kept))]
+#[tactic(auto, using(crate::proofs::ColoredClutLemmas::clut_is, crate::proofs::ColoredClutLemmas::clut_kept))]
 pub(crate) fn cache_clut<L: Ledger>(
     vram: &Vram,
     texture: &Texture,
@@ -118,7 +119,7 @@ pub(crate) fn cache_clut<L: Ledger>(
 )
     requires colored { IfSome last.old IsColoredClut }
     requires fresh { IfSome last.old (λ s. AreClutEntries texture.now vram.now s.entries) }
-    ensures palette { HasPalette texture.now vram.now color last.new }
+    ensures clut { HasColoredClut texture.now vram.now color last.new }
     ensures cost { steps.new ≤ steps.old + 1 }
 {
     if !is_colored_by(last, texture.raw, color) {

@@ -10,7 +10,7 @@ use crate::attributes::color_lanes::{DitherLanes, dither_lanes_of};
 use crate::attributes::ramps::{AttributeRamps, CoordRamps};
 use crate::attributes::shading::{RowColors, is_dithered, row_shading_of};
 use crate::chunks::loops::{ChunkDrawer, draw_chunks};
-use crate::chunks::textured::{Shaded, draw_texels};
+use crate::chunks::textured::{ShadedTexels, draw_texels};
 use crate::clut::clut16::{can_cache_clut, draw_cached};
 use crate::clut::modulated::{ColoredClut, ModulatedTexels, modulated_texels};
 use crate::span::Chunk;
@@ -36,7 +36,7 @@ fn draw_shaded<L: Ledger>(
     let row_colors = RowColors::One {
         color: texels.color,
     };
-    let shaded = Shaded {
+    let shaded = ShadedTexels {
         texture: *texels.texture,
         sampler: texels.sampler,
         shading: row_shading_of(span, texels.texture, row_colors),
@@ -83,7 +83,7 @@ impl<'a> ChunkDrawer for GouraudTexels<'a> {
     ghost use Rattle.span_lanes.specs.Lanes.{AreDitherLanesAt};
     ghost use Rattle.span_lanes.specs.AttributeRamps.{AreColorsOf, AreCoordRampsOf};
 
-    ghost serves = { λ c s m. CanTakeTexels s c.texture.now (AreCoordRampsOf s.paint c.ramps.now.coord_planes) m
+    ghost serves = { λ c s m. CanTakeTexels s c.texture.now (AreCoordRampsOf s.paint c.ramps.now.coord_ramps) m
         × AreColorsOf s.paint c.ramps.now.colors
         × AreDitherLanesAt (s.brush.dither && not c.texture.now.raw) s.x s.y c.dither_lanes.lanes };
 
@@ -93,10 +93,10 @@ impl<'a> ChunkDrawer for GouraudTexels<'a> {
     #[inline(always)]
     fn draw_chunk<L: Ledger>(&self, vram: &mut Vram, chunk: &Chunk, steps: &mut Steps<L>) {
         let AttributeRamps {
-            coord_planes,
+            coord_ramps,
             colors,
         } = self.ramps;
-        let texels = coord_planes.read_texels(vram, self.texture, chunk, steps);
+        let texels = coord_ramps.read_texels(vram, self.texture, chunk, steps);
         let modulated = modulated_texels(self.texture, colors, self.dither_lanes, texels, chunk);
         let drawn = ModulatedTexels {
             texels,
@@ -118,7 +118,7 @@ pub(crate) fn draw_gouraud_texels<L: Ledger>(
     steps: &mut Steps<L>,
 )
     requires take { CanTakeTexels span.now texture.now
-        (AreCoordRampsOf span.now.paint ramps.now.coord_planes) vram.old }
+        (AreCoordRampsOf span.now.paint ramps.now.coord_ramps) vram.old }
     requires ramps { AreAttributeRampsOf span.now.paint ramps.now }
     ensures { DrawsSpan span.now 0 (at_stage vram.old steps.old) (at_stage vram.new steps.new) }
 {

@@ -14,7 +14,7 @@ ghost use Rattle.span_lanes.specs.ColoredClut.{IsCached};
 use crate::attributes::shading::{Shading, row_colors_of, row_shading_of};
 use crate::attributes::triangle_setup::TriangleSetup;
 use crate::chunks::loops::{OwnLoop, draw_by_brush};
-use crate::chunks::textured::{Raw, Shaded};
+use crate::chunks::textured::{Raw, ShadedTexels};
 use crate::clut::clut16::{can_cache_clut, draw_cached_run};
 use crate::clut::modulated::ColoredClut;
 use crate::span::with_dither;
@@ -79,7 +79,7 @@ fn draw_raw<S: Sampler + Copy, L: Ledger>(
 
 // Returns the chunk drawer of texels that are modulated by the colours of `shading`.
 #[inline(always)]
-fn shaded_of<S: Copy>(span: &Span, found: &BoundSampler<S>, shading: &Shading) -> Shaded<S>
+fn shaded_of<S: Copy>(span: &Span, found: &BoundSampler<S>, shading: &Shading) -> ShadedTexels<S>
     requires span { IsSpan span.now }
     requires raw { found.now.texture.now.raw ≡ false }
     requires shading { IsShadingFor span.now.paint shading.now }
@@ -87,7 +87,7 @@ fn shaded_of<S: Copy>(span: &Span, found: &BoundSampler<S>, shading: &Shading) -
     ensures sampler { result.sampler ≡ found.now.sampler }
     ensures shading { IsRowShading span.now found.now.texture.now result.shading }
 {
-    Shaded {
+    ShadedTexels {
         texture: with_raw(found.texture, false),
         sampler: found.sampler,
         shading: row_shading_of(span, found.texture, row_colors_of(span, shading)),

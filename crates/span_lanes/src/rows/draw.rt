@@ -10,14 +10,14 @@
 // - `GouraudCells`, two in `draw_gouraud`: the colours of a triangle, opaque or not. [triangle gouraud]
 // - `CachedClut<TexelRun>`, in `CachedClutMethod::draw_row`: a cached CLUT and opaque pixels. The loop is inlined
 //   into the loop over the rows. [triangle 4-bit modulated]
-// - `CachedClut<&CoordRamps>` and `Shaded<&CoordRamps>`, in `draw_flat_texels`: texels by coordinates under one colour,
-//   without a hazard. No workload runs them.
+// - `CachedClut<&CoordRamps>` and `ShadedTexels<&CoordRamps>`, in `draw_flat_texels`: texels by coordinates under one
+//   colour, without a hazard. No workload runs them.
 // - `GouraudTexels`, in `draw_gouraud_texels`: the same under several colours. [triangle turned, gouraud, dithered]
 // - `CachedClut<TexelRun>`, four in `draw_cached_run`: a cached CLUT for other spans, raw or not, opaque or not.
 // - `Raw<FourBitRun>`, `Raw<EightBitRun>`, `Raw<FifteenBitRun>`, each opaque or not, in `draw_raw`: contiguous raw
 //   texels. [triangle 15-bit raw]
-// - `Shaded` of the same three, each opaque or not, in `draw_dithered` and in `draw_undithered`: contiguous modulated
-//   texels. [triangle 4-bit modulated, dithered; rectangle 15-bit modulated]
+// - `ShadedTexels` of the same three, each opaque or not, in `draw_dithered` and in `draw_undithered`: contiguous
+//   modulated texels. [triangle 4-bit modulated, dithered; rectangle 15-bit modulated]
 // - `CachedClut<&TexCoords>` and `RowSetup`, by the coordinates of each texel: in `draw_row_by_coords` [rectangle that
 //   is flipped], and in `draw_tri`, if spans in the triangle's clip rectangle may have a hazard. In such a rectangle,
 //   `draw_contiguous_tri` draws contiguous rows without a hazard by the loops above. [triangle 15-bit raw, edge of

@@ -36,11 +36,11 @@ returns-clause-smeared c =
     let span : span_cost (span_from p (record { x = 1; y = 0 }) 4) ≡ 12 = refl in
     omega (arith, row, span, span_of_row p 1 0 4 (omega arith))
 
-pub returns-clause-own_palette : goal.returns-clause-own_palette
+pub returns-clause-own_clut : goal.returns-clause-own_clut
 unfolding draw_cost rectangle_cost rectangle_box extent_at rectangle_setup_in rectangle_paint texture_in brush_in
     drawing_area some_box
     overlap clip_rect_of span_cost has_hazard paint_texels row_u windowed has_texel_hazard has_strip_hazard
-returns-clause-own_palette c =
+returns-clause-own_clut c =
     let p = raw_pattern 1 0 3 in
     let row : draw_cost (open_registers 1) (raw_rectangle 0 0 3 1) ≡ 0 + side_by_side p (row_cells 0 0 3) =
     refl in

@@ -7,7 +7,7 @@ returns-clause-pairs c =
     let places = c.texel_cells_of-places in
     let cells = lanes_same c.args.texture.now at.us at.vs places.result.xs places.result.ys c.args.k c.requires.few
     places.ensures.column places.ensures.row in
-    rw (cells, c.palette.ensures.value) at c.lanes_hazard.ensures.pairs
+    rw (cells, c.clut_of.ensures.value) at c.lanes_hazard.ensures.pairs
 
 pub returns-clause-value : goal.returns-clause-value
 returns-clause-value c =
@@ -15,4 +15,4 @@ returns-clause-value c =
     let places = c.texel_cells_of-places in
     let cells = lanes_same c.args.texture.now at.us at.vs places.result.xs places.result.ys c.args.k c.requires.few
     places.ensures.column places.ensures.row in
-    rw (cells, c.palette.ensures.value) at c.lanes_hazard.ensures.value
+    rw (cells, c.clut_of.ensures.value) at c.lanes_hazard.ensures.value

@@ -13,9 +13,9 @@ returns-clause-smeared c =
     let e : span_cost (raw_row (record { x = 0; y = 0; depth = 2 }) 1 0 4) ≡ 12 = refl in
     omega (arith, e)
 
-pub returns-clause-own_palette : goal.returns-clause-own_palette
+pub returns-clause-own_clut : goal.returns-clause-own_clut
 unfolding span_cost has_hazard paint_texels row_u windowed has_texel_hazard has_strip_hazard
-returns-clause-own_palette c =
+returns-clause-own_clut c =
     let e : span_cost (raw_row (record { x = 64; y = 0; depth = 0 }) 0 0 3) ≡ 12 = refl in
     omega (arith, e)
 

@@ -1,7 +1,7 @@
 use Rattle.std.proofs.Common.{arith}
 use Rattle.span_lanes.proofs.PlanLemmas.{apart_cost}
 use Rattle.span_lanes.proofs.ChunkDrawLemmas.{sample_stays}
-use Rattle.span_lanes.proofs.chunks.textured.ShadedChunkDrawer.draw_chunk.Goals as goal
+use Rattle.span_lanes.proofs.chunks.textured.ShadedTexelsChunkDrawer.draw_chunk.Goals as goal
 
 pub draw_shaded-requires-clause-free : goal.draw_shaded-requires-clause-free
 draw_shaded-requires-clause-free g c =
