@@ -1,17 +1,18 @@
 // Runs the program.
 ghost use Rattle.std.specs.Prelude.{◌≡◌, map};
 ghost use Rattle.dev_io.specs.Device.{side};
+ghost use Rattle.demo_play.specs.Telling.{EndsTelling};
 ghost use Rattle.command_line.specs.Command.{IsCommand};
 ghost use Rattle.psxgpu_tool.specs.Line.{memory_line};
-ghost use Rattle.psxgpu_tool.specs.Outside.{outside, source_side, Says, EndsTelling};
+ghost use Rattle.psxgpu_tool.specs.Outside.{outside, source_side, Says};
 ghost use Rattle.psxgpu_tool.specs.Run.{CommandRun, Runs};
 
-use crate::demo::{play_demo, tell_demo};
 use crate::ending::{end, tell};
 use crate::texts::{HELP, VERSION};
 use capture_flat::flat;
 use capture_slim::Slim;
 use command_line::{Command, read_command};
+use demo_play::{play_demo, tell_demo};
 use dev_io::{Sink, Source, write_all};
 use event_play::{Ending, Rig};
 use gpu_snapshot::{cut, play_any};
