@@ -138,8 +138,10 @@ class Plan:
     def begin(self) -> Optional[Tuple[str, int]]:
         """Takes the next crate, and says by how many processors; None where none can be begun now.
 
-        First comes the one with the longest chain. It gets the processors that no other waits for, and two where its
-        chain is longer than all that is left, evenly shared.
+        First comes the one with the longest chain. It gets the processors that no other waits for. Where its chain is
+        longer than all that is left, evenly shared, and than those of all that run, it gets all but one for each other
+        that is ready, and at least two. Some of these may be in use: what uses them ends before it, and little is ready
+        to take their place.
         """
         ready = sorted((it for it in self.left if self.below[it] <= self.done), key=lambda it: -self.chain[it])
         idle = self.lanes - sum(jobs for jobs, _ in self.running.values())
@@ -147,8 +149,10 @@ class Plan:
         work = sum(self.seconds[it] for it in (*self.left, *self.running))
         for at, name in enumerate(ready):
             if idle > 0 and (not self.running or self.memory[name] <= room):
-                most = max(idle // (len(ready) - at), 2 if self.chain[name] > work / self.lanes else 1)
-                most = 1 if self.fixed else min(most, idle, MOST_JOBS)
+                most = max(idle // (len(ready) - at), 1)
+                if self.chain[name] > max([work / self.lanes, *(self.chain[it] for it in self.running)]):
+                    most = max(most, self.lanes - (len(ready) - 1), 2)
+                most = 1 if self.fixed else min(most, self.lanes, MOST_JOBS)
                 jobs = max((it for it in range(1, most + 1) if self.taken(name, it) <= room), default=1)
                 self.left.remove(name)
                 self.running[name] = jobs, self.taken(name, jobs)

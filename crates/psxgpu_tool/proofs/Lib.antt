@@ -2,11 +2,7 @@ pub mod Causes
 pub mod Cuts
 pub mod First
 pub mod Flats
-pub mod Generating
-pub mod Heights
 pub mod Lines
 pub mod Running
 pub mod Slims
-pub mod Sums
 pub mod Told
-pub mod Words

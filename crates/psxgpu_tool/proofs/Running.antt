@@ -15,14 +15,15 @@ use Rattle.event_play.specs.declared.ending.Ending.TheVariants.{Done, WriteFaile
 use Rattle.event_play.proofs.BoxCosts.{costs_small}
 use Rattle.px_num.specs.Height.{short_height}
 use Rattle.command_line.specs.Command.{Names, IsUsage}
-use Rattle.psxgpu_tool.specs.Demo.{demo_events, demo_words}
-use Rattle.psxgpu_tool.specs.DemoOut.{demo_bytes, demo_replay, demo_out, demo_cost, demo_box_cost, cells_cost}
+use Rattle.demo_play.specs.Demo.{demo_events, demo_words}
+use Rattle.demo_play.specs.DemoOut.{demo_bytes, demo_replay, demo_out, demo_cost, demo_box_cost, cells_cost}
 use Rattle.psxgpu_tool.specs.First.{first}
 use Rattle.psxgpu_tool.specs.Line.{status_of, ending_line, ending_text, usage_line}
-use Rattle.psxgpu_tool.specs.Outside.{Outside, Says, EndsTelling}
+use Rattle.demo_play.specs.Telling.{EndsTelling}
+use Rattle.psxgpu_tool.specs.Outside.{Outside, Says}
 use Rattle.psxgpu_tool.specs.Run.{CommandRun, Declined, Runs, RunsAs}
 use Rattle.psxgpu_tool.specs.TellRun.{Tells}
-use Rattle.psxgpu_tool.specs.Words.{HavePlayed, whole_replay}
+use Rattle.demo_play.specs.Words.{HavePlayed, whole_replay}
 use Rattle.command_line.specs.declared.command.Command.{Command}
 use Rattle.command_line.specs.declared.command.Command.TheVariants.{Demo}
 use Rattle.psxgpu_tool.proofs.Causes.{answers}

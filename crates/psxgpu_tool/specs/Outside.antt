@@ -1,8 +1,6 @@
 -- What a run uses: a source, and two sinks, one of them for failures.
 use Rattle.std.specs.Prelude.{◌≡◌, ◌⊎◌, ℕ, List, Option}
 use Rattle.dev_io.specs.Device.{AppendsPart, Rose, SinkSide, appended}
-use Rattle.event_play.specs.declared.ending.Ending.{Ending}
-use Rattle.event_play.specs.declared.ending.Ending.TheVariants.{Done, WriteFailed}
 
 -- a source: the bytes left (None if it does not state them), and how often it failed
 pub record SourceSide : Type 0 where
@@ -33,10 +31,3 @@ HasFailedToRead before now = Rose before.faults now.faults
 abbrev pub Says : (before now : SinkSide) → (bytes : List ℕ) → Type 0
 Says before now bytes = (now.held ≡ appended before.held bytes)
     ⊎ (AppendsPart before.held now.held bytes × HasFailed before now)
-
--- these bytes were written; or the sink failed, and a byte that belongs to this event is missing
-abbrev pub EndsTelling : (bytes : List ℕ) → (event : ℕ) → (before now : SinkSide) → Ending → Type 0
-EndsTelling bytes event before now Done = now.held ≡ appended before.held bytes
-EndsTelling bytes event before now (WriteFailed at) =
-    (at ≡ event) × AppendsPart before.held now.held bytes × HasFailed before now
-EndsTelling bytes event before now ending = ⊥

@@ -4,7 +4,7 @@ use Rattle.dev_io.specs.Device.{appended, AppendsPart}
 use Rattle.gpu_taps.specs.Tally.{Reading}
 use Rattle.event_play.specs.Replay.{next_number}
 use Rattle.event_play.specs.declared.ending.Ending.TheVariants.{WriteFailed}
-use Rattle.psxgpu_tool.specs.DemoOut.{demo_replay, demo_out, demo_cost, demo_box_cost}
+use Rattle.demo_play.specs.DemoOut.{demo_replay, demo_out, demo_cost, demo_box_cost}
 use Rattle.psxgpu_tool.specs.Line.{ending_line}
 use Rattle.psxgpu_tool.specs.Outside.{Outside, Says, HasFailed}
 

@@ -1,17 +1,18 @@
 // Runs the program.
 ghost use Rattle.std.specs.Prelude.{◌≡◌, map};
 ghost use Rattle.dev_io.specs.Device.{side};
+ghost use Rattle.demo_play.specs.Telling.{EndsTelling};
 ghost use Rattle.command_line.specs.Command.{IsCommand};
 ghost use Rattle.psxgpu_tool.specs.Line.{memory_line};
-ghost use Rattle.psxgpu_tool.specs.Outside.{outside, source_side, Says, EndsTelling};
+ghost use Rattle.psxgpu_tool.specs.Outside.{outside, source_side, Says};
 ghost use Rattle.psxgpu_tool.specs.Run.{CommandRun, Runs};
 
-use crate::demo::{play_demo, tell_demo};
 use crate::ending::{end, tell};
 use crate::texts::{HELP, VERSION};
 use capture_flat::flat;
 use capture_slim::Slim;
 use command_line::{Command, read_command};
+use demo_play::{play_demo, tell_demo};
 use dev_io::{Sink, Source, write_all};
 use event_play::{Ending, Rig};
 use gpu_snapshot::{cut, play_any};
@@ -51,22 +52,22 @@ pub fn run<S: Source, K: Sink, E: Sink, L: Ledger>(
             tell(err, b"psxgpu: usage\n");
             1
         }
-        Some(command) => run_command(alloc, command, source, out, err, taps, steps),
+        Some(command) => run_command(alloc, command, source, out, err, &mut taps, steps),
     }
 }
 
 /// Runs a command.
-fn run_command<S: Source, K: Sink, E: Sink, L: Ledger>(
+fn run_command<S: Source, K: Sink, E: Sink, T: Listener, L: Ledger>(
     alloc: Global,
     command: Command,
     source: &mut S,
     out: &mut K,
     err: &mut E,
-    mut taps: Vec<Box<dyn Tap>>,
+    taps: &mut Vec<T>,
     steps: &mut Steps<L>,
 ) -> u8
     requires { IsCommand command }
-    ensures { CommandRun command (map ⟦<Box<dyn Tap> as Listener>⟧.heard taps.items)
+    ensures { CommandRun command (map T.heard taps.old.items)
         (outside (source_side (S.left source.old) (S.faults source.old))
         (side K.held K.faults out.old) (side E.held E.faults err.old) steps.old)
         (outside (source_side (S.left source.new) (S.faults source.new))
@@ -74,41 +75,41 @@ fn run_command<S: Source, K: Sink, E: Sink, L: Ledger>(
         result }
 {
     match command {
-        Command::Help => end(err, tell_text(HELP, out), &taps),
-        Command::Version => end(err, tell_text(VERSION, out), &taps),
+        Command::Help => end(err, tell_text(HELP, out), taps),
+        Command::Version => end(err, tell_text(VERSION, out), taps),
         Command::Plays { mode } => match Rig::new(alloc) {
             Ok(rig) => {
-                let ending = play_any(rig, source, out, mode, &mut taps, steps);
-                end(err, ending, &taps)
+                let ending = play_any(rig, source, out, mode, taps, steps);
+                end(err, ending, taps)
             }
             Err(_) => tell_no_memory(err),
         },
         Command::Demo { packets } => match Rig::new(alloc) {
             Ok(mut rig) => {
-                play_demo(&mut rig, packets, &mut taps, steps);
-                let ending = tell_demo(&rig, out, &taps, steps);
-                end(err, ending, &taps)
+                play_demo(&mut rig, packets, taps, steps);
+                let ending = tell_demo(&rig, out, taps, steps);
+                end(err, ending, taps)
             }
             Err(_) => tell_no_memory(err),
         },
         Command::Flat => match Rig::new(alloc) {
             Ok(mut rig) => {
-                let ending = flat(&mut rig, source, out, &mut taps, steps);
-                end(err, ending, &taps)
+                let ending = flat(&mut rig, source, out, taps, steps);
+                end(err, ending, taps)
             }
             Err(_) => tell_no_memory(err),
         },
         Command::Cut { events } => match Rig::new(alloc) {
             Ok(mut rig) => {
-                let ending = cut(&mut rig, events, source, out, &mut taps, steps);
-                end(err, ending, &taps)
+                let ending = cut(&mut rig, events, source, out, taps, steps);
+                end(err, ending, taps)
             }
             Err(_) => tell_no_memory(err),
         },
         Command::Slim => match Slim::new(alloc) {
             Ok(mut slim) => {
                 let ending = slim.pass(source, out);
-                end(err, ending, &taps)
+                end(err, ending, taps)
             }
             Err(_) => tell_no_memory(err),
         },

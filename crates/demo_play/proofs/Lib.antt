@@ -1,0 +1,4 @@
+pub mod Generating
+pub mod Heights
+pub mod Sums
+pub mod Words

@@ -1,0 +1,4 @@
+pub mod Demo
+pub mod DemoOut
+pub mod Telling
+pub mod Words
