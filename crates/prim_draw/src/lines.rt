@@ -10,7 +10,7 @@ ghost use Rattle.prim_draw.specs.Lines.{segment_box, plotted};
 ghost use Rattle.gp1_status.specs.Drawing.{IsArea};
 ghost use Rattle.blend_dither.specs.Color.{IsShift};
 ghost use Rattle.span_lanes.specs.Shade.{blended_if, flat_pixel, dither_of};
-ghost use Rattle.vram_store.specs.Plot.{is_testing, written_over};
+ghost use Rattle.vram_store.specs.Plot.{is_testing};
 
 use crate::boxes::{box_from, clipped, greatest, is_in, least, screen_point_of};
 use crate::settings::{brush_in, placed};
@@ -21,7 +21,7 @@ use px_num::{Box2, Cell, Vertex};
 use span_lanes::Brush;
 use std::marker::Model;
 use std::sync::ledger::Ledger;
-use vram_store::mask::{force, keeps, tests};
+use vram_store::mask::{force, tests, write_color};
 use vram_store::{Steps, Vram};
 
 // Draws a point, which must be in the drawing area. Costs at most two steps.
@@ -231,18 +231,6 @@ fn pixel_over(brush: &Brush, color: u32, shift: i8, back: u16) -> u16
     pack(blend_if(brush, back, tone(color, shift)), false, false)
 }
 
-// Returns the halfword that a colour writes over a cell with the value `back`, or `None` if the mask setting protects
-// the cell.
-fn written_over(mask: u8, back: u16, color: u16) -> Option<u16>
-    ensures { result ≡ written_over mask back (Some color) }
-{
-    if keeps(mask, back) {
-        None
-    } else {
-        Some(force(mask, color))
-    }
-}
-
 // Plots a colour at a cell, which is read first. Costs at most two steps.
 fn plot_seen<L: Ledger>(vram: &mut Vram, brush: &Brush, to: Cell, color: u32, steps: &mut Steps<L>)
     requires in_row { to.x < 1024 }
@@ -255,7 +243,7 @@ fn plot_seen<L: Ledger>(vram: &mut Vram, brush: &Brush, to: Cell, color: u32, st
     let back = vram.get(to.x, to.y, steps);
     let shift = shift_for(brush.dither, to);
     let pixel = pixel_over(brush, color, shift, back);
-    if let Some(halfword) = written_over(brush.mask, back, pixel) {
+    if let Some(halfword) = write_color(brush.mask, back, pixel) {
         vram.put(to.x, to.y, halfword, steps);
     }
 }

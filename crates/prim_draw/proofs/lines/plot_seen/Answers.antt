@@ -23,7 +23,7 @@ returns-in-Some-clause-cells g c =
     ≡ flat_pixel brush c.args.color (dither_of brush.dither c.args.to.x c.args.to.y) (at m c.args.to.x c.args.to.y) =
     rw (← c.shift_for-shift.ensures.value, ← c.get-back.ensures.value) (simp to_z-of_z at c.pixel_over-pixel.ensures) in
     c.put.ensures.cells ∙ put-written m brush.mask c.args.to.x c.args.to.y _ _ _ _ c.get-back.ensures.value pixel
-    (sym c.in-Some.is ∙ c.written_over.ensures)
+    (sym c.in-Some.is ∙ c.write_color.ensures)
 
 pub returns-in_default-clause-cells : goal.returns-in_default-clause-cells
 returns-in_default-clause-cells g c =
@@ -34,4 +34,4 @@ returns-in_default-clause-cells g c =
     ≡ flat_pixel brush c.args.color (dither_of brush.dither c.args.to.x c.args.to.y) (at m c.args.to.x c.args.to.y) =
     rw (← c.shift_for-shift.ensures.value, ← c.get-back.ensures.value) (simp to_z-of_z at c.pixel_over-pixel.ensures) in
     put-written m brush.mask c.args.to.x c.args.to.y _ _ _ _ c.get-back.ensures.value pixel
-    (sym c.in_default.is ∙ c.written_over.ensures)
+    (sym c.in_default.is ∙ c.write_color.ensures)
