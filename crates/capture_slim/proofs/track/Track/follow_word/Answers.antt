@@ -11,10 +11,13 @@ pub returns-then-passes-clause-control : goal.returns-then-passes-clause-control
 returns-then-passes-clause-control c =
     let k : Control = record { regs = c.self.inside.regs; pending = c.self.inside.splitter } in
     let f : Registers → Control = λ regs. record { regs = regs; pending = c.self.inside.splitter } in
-    ap f (c.put.ensures ∙ ap (regs_after k.regs) c.decode_environment.ensures.value)
+    ap f (c.put.ensures ∙ ap (regs_after k.regs) c.decode_environment-packet.ensures.value)
     ∙ register_control k c.args.word (c.passes.ensures.packet c.if-passes.true)
     (c.passes.ensures.class c.if-passes.true)
     ∙ ap (λ (k : Control). controlled k (Gp0 c.args.word)) c.self.view_is
+
+pub put-requires : goal.put-requires
+put-requires c = c.decode_environment-packet.ensures.ranges c.self.inside.regs.height
 
 pub returns-then-passes-clause-effect : goal.returns-then-passes-clause-effect
 returns-then-passes-clause-effect c =
