@@ -5,15 +5,20 @@ import glob
 import lzma
 import os
 import random
+import threading
 import unittest
 from typing import List
+from unittest import mock
 
 from psxgpu import capture as c
 from psxgpu.command import ToolError
 from psxgpu.heat.shown import shown_of
+from psxgpu.jobs import in_order
 from psxgpu.parallel import results
+from psxgpu.players import audit
 from psxgpu.players.flat import flattened
 from psxgpu.players.listed import Walk
+from psxgpu.players.named import player_of
 from psxgpu.players.parts import PartWalk, parts_of
 from psxgpu.textures.parts import collected
 from tests import support
@@ -51,6 +56,20 @@ def recording(seed: int) -> bytes:
 
 
 class Calls(unittest.TestCase):
+    def test_in_order(self) -> None:
+        """The first item is the last to be done; no more than three items are begun before it is."""
+        begun, first = [], threading.Event()    # type: List[int], threading.Event
+
+        def work(number: int) -> int:
+            begun.append(number)
+            if len(begun) == 3:
+                first.set()
+            self.assertTrue(number or first.wait(60))
+            return number
+        found = in_order(3, work, range(9))
+        self.assertEqual((next(found), sorted(begun)), (0, [0, 1, 2]))
+        self.assertEqual(list(found), list(range(1, 9)))
+
     def test_failures(self) -> None:
         """An error of a call is that of the tool; what is no error of it is told in a line."""
         self.assertEqual(list(results(2, failing, [(0,), (0,)])), [5, 5])
@@ -100,6 +119,20 @@ class Parts(support.InFolder):
                 one, four = (collected(Walk(flat, 'a', support.PLAYER), True, jobs, 1) for jobs in (1, 4))
                 self.assertEqual((one.questions, one.packets), (four.questions, four.packets))
                 self.assertEqual(list(map(vars, one.textures)), list(map(vars, four.textures)))
+
+    def test_audit(self) -> None:
+        """Groups of packets that are played side by side, each from what the groups before it leave."""
+        data = recording(1)
+        with mock.patch.object(audit, 'WORDS', 500):
+            ours, theirs = (player_of('%s vram' % support.PLAYER) for _ in range(2))
+            one, four = (audit.audit(data, ours, theirs, 1, 1 << 30, jobs=jobs) for jobs in (1, 4))
+        self.assertEqual({kind: row.as_object() for kind, row in one.items()},
+                         {kind: row.as_object() for kind, row in four.items()})
+
+    def test_compare(self) -> None:
+        paths = [self.write('a', recording(1)), self.write('b', recording(1)[:-4] + recording(2)[8:])]
+        one, four = (support.run_tool('compare', *paths, '--jobs', jobs) for jobs in '14')
+        self.assertEqual((one.stdout, one.returncode, one.stderr), (four.stdout, 1, ''))
 
     def test_refused(self) -> None:
         """A capture that is cut is gone through as a whole."""
