@@ -101,8 +101,7 @@ class PartWalk(Walk):
     @contextlib.contextmanager
     def sources(self) -> Iterator[Tuple[Readable, Union[str, IO[bytes]]]]:
         with open(self.path, 'rb') as file, scratch() as played:
-            for piece in (self.head, *self.part.bytes(file), END):
-                played.write(piece)
+            played.writelines(itertools.chain([self.head], self.part.bytes(file), [END]))
             played.flush()
             played.seek(0)
             pieces = itertools.chain([HEADS[self.version]], self.part.bytes(file), [END])
