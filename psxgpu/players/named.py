@@ -12,13 +12,15 @@ If the command is this project's own program and the library is there, it runs i
 """
 from __future__ import annotations
 
+import io
 import os
 import re
 import shlex
 import shutil
 import signal
 import subprocess
-from typing import List, NamedTuple, Optional
+import time
+from typing import IO, Iterator, List, NamedTuple, Optional, Tuple
 
 from psxgpu.command import ToolError
 from psxgpu.errors import counted
@@ -26,12 +28,13 @@ from psxgpu.vram import WIDTH
 from psxgpu.machine import MODES, play
 from psxgpu.machine.library import Missing, OutOfMemory, Refused, library
 from psxgpu.players import by_library, player as program
-from psxgpu.stopping import kill, session
+from psxgpu.stopping import limited, scratch, session
 
 OWN = 'psxgpu_tool'
 WORD = re.compile(r'(?<!\S)vram(?!\S)')
 SHELL = set('|&;<>()$`*?[]#~{}!\n')       # a command with one of these needs a shell
 SAID = 60                                   # characters of an error that a message repeats
+MOST_READ, FEW, PAUSE = 1 << 20, 4096, 0.001    # bytes that are read at once, those after which more is waited for; s
 PREFIX = 'psxgpu: '                         # of each error of our own program
 
 
@@ -72,6 +75,17 @@ def arguments_of(command: str) -> List[str]:
     return ['sh', '-c', command]
 
 
+def parts_of(pipe: int) -> Iterator[bytes]:
+    """Yields what comes out of a pipe. If that is a few bytes, waits for more: a player may write word by word."""
+    while True:
+        part = os.read(pipe, MOST_READ)
+        if not part:
+            return
+        yield part
+        if len(part) < FEW:
+            time.sleep(PAUSE)
+
+
 class CommandPlayer(Player):
     """A player that is a process of its own in each run."""
 
@@ -91,17 +105,25 @@ class CommandPlayer(Player):
 
     def run(self, mode: str, data: bytes, seconds: Optional[float] = None) -> Done:
         words = self.arguments(mode)
+        with scratch() as file, scratch() as err:       # two files, so that one pipe alone is read
+            file.write(data)
+            file.seek(0)
+            status, out = self.played(words, file, err, self.seconds if seconds is None else seconds)
+            err.seek(0)
+            return Done(status, b'' if status is None else out, b'' if status is None else err.read())
+
+    @staticmethod
+    def played(words: List[str], file: IO[bytes], err: IO[bytes],
+               seconds: Optional[float]) -> Tuple[Optional[int], bytes]:
+        """Runs a process on a file. Returns its status, None if its time ran out, and what it wrote."""
         try:
-            with session(words, stdin=subprocess.PIPE, stdout=subprocess.PIPE, stderr=subprocess.PIPE) as child:
-                try:
-                    out, err = child.communicate(data, self.seconds if seconds is None else seconds)
-                except subprocess.TimeoutExpired:
-                    kill(child)
-                    child.communicate()
-                    return Done(None, b'', b'')
+            with session(words, stdin=file, stdout=subprocess.PIPE, stderr=err) as child:
+                with limited(child, seconds) as is_over, child.stdout or io.BytesIO() as pipe:
+                    out = b''.join(parts_of(pipe.fileno()))
+                    child.wait()
         except OSError as error:
             raise ToolError('%s: %s' % (words[0], error.strerror)) from error
-        return Done(child.returncode, out, err)
+        return None if is_over.is_set() else child.returncode, out
 
 
 class LibraryPlayer(Player):
