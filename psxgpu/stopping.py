@@ -84,25 +84,6 @@ def session(words: List[str], **settings: Any) -> Iterator["subprocess.Popen[byt
             RUNNING.discard(child)
 
 
-@contextlib.contextmanager
-def limited(child: "subprocess.Popen[bytes]", seconds: Optional[float]) -> Iterator[threading.Event]:
-    """Ends a process that runs for longer than `seconds`, if they are given. Yields what is set then."""
-    is_over = threading.Event()
-
-    def end_late() -> None:
-        if child.returncode is None:
-            is_over.set()
-            kill(child)
-    timer = threading.Timer(seconds, end_late) if seconds is not None else None
-    if timer:
-        timer.start()
-    try:
-        yield is_over
-    finally:
-        if timer:
-            timer.cancel()
-
-
 def stop(number: int, _: Optional[types.FrameType]) -> None:
     """Handles a signal. A second one ends the process at once."""
     if HELD and not HELD[-1]:

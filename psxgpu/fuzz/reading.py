@@ -3,7 +3,7 @@ from __future__ import annotations
 
 import tempfile
 from collections import Counter
-from typing import FrozenSet, Iterator, List, NamedTuple, Optional, Sequence, Set, Tuple
+from typing import FrozenSet, Iterable, Iterator, List, NamedTuple, Optional, Sequence, Set, Tuple
 
 from psxgpu.command import ToolError
 from psxgpu.fuzz.conditions import transfer_facts
@@ -22,7 +22,7 @@ from psxgpu.stream import GP0, GP1, HEADS, KINDS, READ, STAT, encode
 SEQUENCES, MOST_REDUCED = 60, 2
 ALL = 0xFFFFFFFF            # bits
 ENDS: Record = (GP1, 1, (0,))
-SETTINGS = 7                # the upper three bits of E0h to FFh
+SETTINGS, IRQ = 7, 0x1F     # the upper three bits of E0h to FFh; the opcode that sets status bit 24
 STORES = frozenset(['width 0', 'height 0', 'an odd number of cells', 'size bits above its fields'])
 SIZES = (0x00000001, 0x00010000, 0x02010001, 0x00010401)      # of stores: 0, and with bits above the fields
 
@@ -103,6 +103,11 @@ def texts_of(records: Sequence[Record]) -> List[str]:
             for kind, _, part in records]
 
 
+def data_of(sequences: Iterable[Sequence[Record]]) -> bytes:
+    """Returns sequences as a capture."""
+    return HEADS[1] + b''.join(encode(*record) for one in sequences for record in one) + bytes(4)
+
+
 class BitsDiffer(WordsDiffer):
     """A word that is read, or a status, differs in one of these bits."""
 
@@ -112,6 +117,20 @@ class BitsDiffer(WordsDiffer):
 
     def differs(self, ours: int, theirs: int) -> bool:
         return bool((ours ^ theirs) & self.wanted)
+
+
+def differing(records: Sequence[Record], ours: Sequence[int],
+              theirs: Sequence[int]) -> Iterator[Tuple[List[Record], int]]:
+    """Yields the start of a sequence up to each read that differs, and the bits in which its word does. Of the words of
+    one record, the first that differs."""
+    at = 0
+    for k, (kind, count, words) in enumerate(records):
+        if kind in (READ, STAT):
+            bits = [ours[at + n] ^ theirs[at + n] for n in range(count)]
+            first = next((n for n in range(count) if bits[n]), None)
+            if first is not None:
+                yield [*records[:k], (kind, first + 1, words)], bits[first]
+            at += count
 
 
 class Reading:
@@ -137,7 +156,7 @@ class Reading:
             opcode = r.choice((*range(9), *range(9), 0x10, 0x10, 0x10, r.randrange(0x10, 0x40), r.randrange(64, 256)))
             yield GP1, 1, (opcode << 24 | r.choice((r.randrange(16), r.getrandbits(24))),)
         elif way == 2:
-            yield GP0, 1, (r.randrange(0xE1, 0xE7) << 24 | r.getrandbits(24),)
+            yield GP0, 1, (r.choice((IRQ, *range(0xE1, 0xE7))) << 24 | r.getrandbits(24),)
         elif way == 3:
             packet = self.hunt.maker.fresh()[-1]
             cut = r.choice((len(packet), r.randrange(1, len(packet) + 1)))
@@ -177,7 +196,7 @@ class Reading:
     def judge(self, found: List[List[Record]]) -> None:
         """Compares sequences in one run of each player. If a player breaks down, in two halves."""
         hunt, half = self.hunt, len(found) // 2
-        data = HEADS[1] + b''.join(encode(*record) for one in found for record in one) + bytes(4)
+        data = data_of(found)
         ours = words_of(hunt.bench.ours, data, hunt.bench.seconds)
         try:
             theirs = words_of(hunt.bench.theirs, data, hunt.bench.seconds)
@@ -191,13 +210,13 @@ class Reading:
             return
         at = reduced = 0
         for records in found:
-            kinds = [kind for kind, count, _ in records for _ in range(count) if kind in (READ, STAT)]
-            pairs = list(zip(kinds, ours[at:at + len(kinds)], theirs[at:at + len(kinds)]))
-            at += len(kinds)
-            first = next(((kind, a ^ b) for kind, a, b in pairs if a != b), None)
-            hunt.counts['differ'] += first is not None
-            if first and reduced < MOST_REDUCED:
-                reduced += self.look_into(records, *first)
+            count = sum(size for kind, size, _ in records if kind in (READ, STAT))
+            differ = list(differing(records, ours[at:at + count], theirs[at:at + count]))
+            at += count
+            hunt.counts['differ'] += bool(differ)
+            for part, bits in differ:
+                if reduced < MOST_REDUCED:
+                    reduced += self.look_into(part, bits)
 
     def keep_lost(self, records: List[Record], data: bytes, how: str) -> None:
         """Keeps a sequence for which their player gives no words, unless a kind explains it."""
@@ -222,8 +241,9 @@ class Reading:
         self.hunt.seen.update([*found][:1] if not rest else ())
         return rest
 
-    def look_into(self, records: List[Record], kind: int, bits: int) -> bool:
-        """Counts a sequence that differs, or reduces it. Returns whether it was reduced."""
+    def look_into(self, records: List[Record], bits: int) -> bool:
+        """Counts a sequence whose last word differs, or reduces it. Returns whether it was reduced."""
+        kind = records[-1][0]
         new = New(STATUS if kind == STAT else READS, bits if kind == STAT else ALL, facts_of(records))
         new = new._replace(bits=self.unknown(new))
         self.tried[new] += 1
@@ -237,7 +257,7 @@ class Reading:
         hunt, begin = self.hunt, self.hunt.time
         hunt.counts['reductions'] += 1
         fault = BitsDiffer(new.bits)
-        found = self.reduced(self.plainer(records, fault), fault)
+        found = self.reduced(self.plainer(records, fault), fault) if self.is_shown(records, fault) else None
         if found is None:
             hunt.counts['not shown alone'] += 1
             return
@@ -259,14 +279,17 @@ class Reading:
         hunt.store.put(key, kind, list(files_of(found, path, ['theirs: ' + hunt.bench.theirs.text])))
         hunt.seen[key] += 1
 
+    def is_shown(self, records: List[Record], fault: BitsDiffer) -> bool:
+        """Returns whether a sequence alone differs."""
+        bench = self.hunt.bench
+        return fault.shows(bench.ours, bench.theirs, data_of([records]), bench.seconds)
+
     def plainer(self, records: List[Record], fault: BitsDiffer) -> List[Record]:
         """Returns a sequence that differs, too, whose control words have as few bits as they can."""
-        bench = self.hunt.bench
         for at, (kind, _, words) in enumerate(records):
             for mask in (0xFF000000, 0xFF00000F) if kind == GP1 else ():
                 changed = [*records[:at], (kind, 1, (words[0] & mask,)), *records[at + 1:]]
-                data = HEADS[1] + b''.join(encode(*record) for record in changed) + bytes(4)
-                if fault.shows(bench.ours, bench.theirs, data, bench.seconds):
+                if self.is_shown(changed, fault):
                     records = changed
                     break
         return records
@@ -275,7 +298,7 @@ class Reading:
         """Returns the smallest capture of a sequence, or None if it does not differ alone."""
         bench = self.hunt.bench
         with tempfile.NamedTemporaryFile(prefix='psxgpu') as file:
-            file.write(HEADS[1] + b''.join(encode(*record) for record in records) + bytes(4))
+            file.write(data_of([records]))
             file.flush()
             try:
                 with Job(bench.ours, bench.theirs, Wanted(fault, []), bench.seconds, 1) as job:

@@ -12,15 +12,17 @@ If the command is this project's own program and the library is there, it runs i
 """
 from __future__ import annotations
 
+import contextlib
 import io
 import os
 import re
+import select
 import shlex
 import shutil
 import signal
 import subprocess
 import time
-from typing import IO, Iterator, List, NamedTuple, Optional, Tuple
+from typing import IO, List, NamedTuple, Optional, Tuple
 
 from psxgpu.command import ToolError
 from psxgpu.errors import counted
@@ -28,7 +30,7 @@ from psxgpu.vram import WIDTH
 from psxgpu.machine import MODES, play
 from psxgpu.machine.library import Missing, OutOfMemory, Refused, library
 from psxgpu.players import by_library, player as program
-from psxgpu.stopping import limited, scratch, session
+from psxgpu.stopping import end, scratch, session
 
 OWN = 'psxgpu_tool'
 WORD = re.compile(r'(?<!\S)vram(?!\S)')
@@ -75,15 +77,23 @@ def arguments_of(command: str) -> List[str]:
     return ['sh', '-c', command]
 
 
-def parts_of(pipe: int) -> Iterator[bytes]:
-    """Yields what comes out of a pipe. If that is a few bytes, waits for more: a player may write word by word."""
-    while True:
-        part = os.read(pipe, MOST_READ)
-        if not part:
-            return
-        yield part
-        if len(part) < FEW:
-            time.sleep(PAUSE)
+def output_of(child: "subprocess.Popen[bytes]", seconds: Optional[float]) -> Optional[bytes]:
+    """Returns what a process writes until it ends; None if that takes longer than `seconds`, if they are given. After a
+    few bytes, waits for more before it reads on: a player may write word by word."""
+    last = None if seconds is None else time.monotonic() + seconds
+    out, waiting = [], select.poll()        # type: List[bytes], select.poll
+    with child.stdout or io.BytesIO() as pipe:
+        waiting.register(pipe, select.POLLIN)
+        while waiting.poll(None if last is None else max(0, 1000 * (last - time.monotonic()))):
+            out.append(os.read(pipe.fileno(), MOST_READ))
+            if not out[-1]:
+                with contextlib.suppress(subprocess.TimeoutExpired):
+                    child.wait(None if last is None else max(0, last - time.monotonic()))
+                    return b''.join(out)
+                break
+            if len(out[-1]) < FEW:
+                time.sleep(PAUSE)
+    return None
 
 
 class CommandPlayer(Player):
@@ -110,20 +120,20 @@ class CommandPlayer(Player):
             file.seek(0)
             status, out = self.played(words, file, err, self.seconds if seconds is None else seconds)
             err.seek(0)
-            return Done(status, b'' if status is None else out, b'' if status is None else err.read())
+            return Done(None, b'', b'') if out is None else Done(status, out, err.read())
 
     @staticmethod
     def played(words: List[str], file: IO[bytes], err: IO[bytes],
-               seconds: Optional[float]) -> Tuple[Optional[int], bytes]:
-        """Runs a process on a file. Returns its status, None if its time ran out, and what it wrote."""
+               seconds: Optional[float]) -> Tuple[int, Optional[bytes]]:
+        """Runs a process on a file. Returns its status and what it wrote, None if its time ran out."""
         try:
             with session(words, stdin=file, stdout=subprocess.PIPE, stderr=err) as child:
-                with limited(child, seconds) as is_over, child.stdout or io.BytesIO() as pipe:
-                    out = b''.join(parts_of(pipe.fileno()))
-                    child.wait()
+                out = output_of(child, seconds)
+                if out is None:
+                    end(child)
         except OSError as error:
             raise ToolError('%s: %s' % (words[0], error.strerror)) from error
-        return None if is_over.is_set() else child.returncode, out
+        return child.returncode, out
 
 
 class LibraryPlayer(Player):
