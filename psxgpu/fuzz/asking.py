@@ -11,16 +11,20 @@ from random import Random
 from typing import Dict, Iterator, List, Optional
 
 from psxgpu.fuzz.conditions import NO_CONDITIONS, SETTINGS, VAGUE, facts_of
-from psxgpu.fuzz.kinds import KINDS, Facts, Kind, Store
+from psxgpu.fuzz.kinds import KINDS, READS, Facts, Kind, Store
 from psxgpu.fuzz.making import MOST_CELLS, Maker, packed, packets_of
 from psxgpu.fuzz.nearby import Nearby, without
+from psxgpu.packets.split import KEPT
 from psxgpu.players.bench import Bench, Experiment, boxes_of, cells_of
 from psxgpu.players.looks import LOST, OUTSIDE
 from psxgpu.players.probes import size
+from psxgpu.players.trial_run import words_of
 from psxgpu.stream import GP0, Stream
 
 ASKED, LEAST = 12, 6        # experiments on each side of a fact, and how few decide nothing
 ONE_MORE = 'width above 1', 'height above 1'
+REGISTERS = KEPT[False]     # the bits of E1h to E6h
+ASKED_FOR = {'E%Xh' % number: 0xE0 + number for number in range(2, 6)}      # facts of sequences, and the registers
 HARDLY, MOSTLY = 0.1, 0.5   # shares of those that differ without the fact, and with it
 
 
@@ -81,6 +85,31 @@ class Asking:
             return None
         return others <= HARDLY * some
 
+    def register_bits(self, key: str) -> Dict[int, int]:
+        """Returns the register that a kind of reads asks for, and the bits of it in which the last words differ."""
+        kind, path = self.store.kinds[key], self.store.path(os.path.join(KINDS, key + '.capture'))
+        opcodes = [opcode for name, opcode in ASKED_FOR.items() if name in kind.rule]
+        if len(opcodes) != 1 or not os.path.exists(path):
+            return {}
+        with open(path, 'rb') as file:
+            data = file.read()
+        mine, theirs = (words_of(player, data, self.bench.seconds) for player in (self.bench.ours, self.bench.theirs))
+        return {opcodes[0]: (mine[-1] ^ theirs[-1]) & REGISTERS[opcodes[0] - 0xE1]} if mine and theirs else {}
+
+    def is_of_register(self, key: str, other: str) -> bool:
+        """Returns whether a kind is one with a kind of reads: their player has other bits of a register, and hardly
+        anything differs without these bits."""
+        near, rule = self.nearby(key), self.store.kinds[key].rule
+        if near is None:
+            return False
+        for opcode, bits in self.register_bits(other).items():
+            found = (one for one in near.changed() if rule <= facts_of(one) and cells_of(one) <= MOST_CELLS)
+            having = [near.middle, *islice((one for one in found if near.play([one])[0]), LEAST)]
+            lacking = [tuple((packet[0] & ~bits,) if packet[0] >> 24 == opcode else packet for packet in one)
+                       for one in having]
+            return all(new != one for new, one in zip(lacking, having)) and not any(near.play(lacking))
+        return False
+
     def is_case(self, key: str, other: str) -> bool:
         """Returns whether a kind is a case of another one, which has a condition."""
         kind, general, near = self.store.kinds[key], self.store.kinds[other], self.nearby(key)
@@ -124,14 +153,21 @@ class Asking:
                 return True
         return fact in ONE_MORE or self.needs(near, kind.rule, fact) is False
 
+    def is_same(self, key: str, other: str) -> bool:
+        """Returns whether experiments show that a kind is a case of another one."""
+        names = [self.store.kinds[one].name for one in (key, other)]
+        if names[0] == names[1]:
+            return self.is_case(key, other)
+        return self.is_of_register(key, other) if names[1] == READS else self.is_shared(key, other)
+
     def ask(self) -> None:
         """Asks about all pairs of kinds, and keeps what was found in each kind."""
         kinds = self.store.kinds
         for key, kind in kinds.items():
             if kind.look in (OUTSIDE, LOST):
                 continue
-            same = [other for other in kinds if other != key and kinds[other].look not in (OUTSIDE, LOST) and (
-                self.is_case if kinds[other].name == kind.name else self.is_shared)(key, other)]
+            same = [other for other in kinds if other != key and kinds[other].look not in (OUTSIDE, LOST)
+                    and self.is_same(key, other)]
             if same != kind.same:
                 kind.same = same
                 self.store.put(key, kind)

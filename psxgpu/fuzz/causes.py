@@ -1,13 +1,14 @@
 """Puts kinds together that one small change of a player would explain."""
 from __future__ import annotations
 
+import itertools
 from dataclasses import replace
 from typing import Dict, FrozenSet, List, NamedTuple, Optional
 
 from psxgpu.fuzz.conditions import BLENDING, DEPTHS, INCIDENTAL, NO_CONDITIONS, VAGUE
 from psxgpu.fuzz.kinds import READS, STATUS, Kind, sentence
 from psxgpu.fuzz.rules import Samples
-from psxgpu.players.looks import OUTSIDE, SHAPES, similar
+from psxgpu.players.looks import COLOURS, LOST, OUTSIDE, SHAPES, similar
 
 GENERAL = NO_CONDITIONS.union(DEPTHS, BLENDING)     # two causes may need the same one of these
 SAYS_NOTHING = frozenset(['texture', 'shades', 'quad', 'polyline'])
@@ -46,6 +47,13 @@ def outside_rule(one: Kind, other: Kind) -> Optional[Facts]:
     return known.rule if known.rule and known.rule <= frozenset(stray.seed) else None
 
 
+def lost_rule(one: Kind, other: Kind) -> Optional[Facts]:
+    """Returns the same for a packet and a sequence at which their player breaks down: the sequence has such a
+    packet."""
+    packet, sequence = (one, other) if other.name == READS else (other, one)
+    return packet.rule if packet.name in sequence.seed else None
+
+
 def common_rule(one: Kind, other: Kind, samples: Samples) -> Optional[Facts]:
     """Returns the facts that one cause of two kinds needs; None if they are two causes.
 
@@ -53,6 +61,8 @@ def common_rule(one: Kind, other: Kind, samples: Samples) -> Optional[Facts]:
     condition. Of two packets, if both need the same facts about the same rule. What else is one cause, experiments have
     to show (`psxgpu.fuzz.asking`)."""
     both = one.rule & other.rule
+    if one.look == LOST and other.look == LOST and READS in (one.name, other.name) and one.name != other.name:
+        return lost_rule(one, other)
     if one.name != other.name:
         return shared_rule(one, other)
     if OUTSIDE in (one.look, other.look):
@@ -71,7 +81,8 @@ def is_case(one: Kind, other: Kind, samples: Samples) -> bool:
     general, special = sorted((one, other), key=lambda kind: len(kind.rule))
     if not general.is_vague:
         return True
-    is_alike = special.look in similar(general.look) or special.is_vague and {one.look, other.look} <= {*SHAPES}
+    is_alike = (special.look in similar(general.look) or special.is_vague and {one.look, other.look} <= {*SHAPES}
+                or 'texture' in general.rule and general.look == COLOURS)       # a texel may be transparent
     return is_alike and not samples.is_apart(special.name, special.look, general.rule, special.rule)
 
 
@@ -80,7 +91,7 @@ def shown_rule(one: Cause, other: Cause, kinds: Dict[str, Kind]) -> Optional[Fac
     of a kind of the other."""
     for special, general in ((one, other), (other, one)):
         if any(not set(kinds[key].same).isdisjoint(general.keys) for key in special.keys):
-            return general.kind.rule
+            return (special if general.kind.name == READS else general).kind.rule
     return None
 
 
@@ -102,10 +113,22 @@ def joined_with(found: List[Cause], at: int, kinds: Dict[str, Kind], samples: Sa
     for other in found[at + 1:]:
         rule = shown_rule(cause, other, kinds)
         if rule is None:
-            rule = common_rule(cause.kind, other.kind, samples)
+            rule = told_rule(cause, other, kinds, samples)
         if rule is not None:
+            main, more = (other, cause) if cause.kind.name == READS else (cause, other)     # a packet says more
             found.remove(other)
-            found[at] = Cause(cause.key, replace(cause.kind, needs=sorted(rule)), cause.keys + other.keys,
-                              [*dict.fromkeys(cause.labels + other.labels)])
+            found[at] = Cause(main.key, replace(main.kind, needs=sorted(rule)), main.keys + more.keys,
+                              [*dict.fromkeys(main.labels + more.labels)])
             return True
     return False
+
+
+def told_rule(one: Cause, other: Cause, kinds: Dict[str, Kind], samples: Samples) -> Optional[Facts]:
+    """Returns the facts that one cause of two needs, if any kind of one and any kind of the other that say something
+    are one by their facts."""
+    rule = common_rule(one.kind, other.kind, samples)
+    if rule is not None:
+        return rule
+    pairs = itertools.product(*([kinds[key] for key in cause.keys if kinds[key].rule - SAYS_NOTHING]
+                                for cause in (one, other)))
+    return one.kind.rule if any(common_rule(a, b, samples) is not None for a, b in pairs) else None

@@ -195,13 +195,9 @@ class Reading:
 
     def judge(self, found: List[List[Record]]) -> None:
         """Compares sequences in one run of each player. If a player breaks down, in two halves."""
-        hunt, half = self.hunt, len(found) // 2
-        data = data_of(found)
-        ours = words_of(hunt.bench.ours, data, hunt.bench.seconds)
+        hunt, half, data = self.hunt, len(found) // 2, data_of(found)
         try:
-            theirs = words_of(hunt.bench.theirs, data, hunt.bench.seconds)
-            if len(theirs) != len(ours):
-                raise ToolError('%s: %d words of %d' % (hunt.bench.theirs.text, len(theirs), len(ours)))
+            ours, theirs = self.words(data)
         except ToolError as how:
             for part in (found[:half], found[half:]) if half else ():
                 self.judge(part)
@@ -214,12 +210,34 @@ class Reading:
             differ = list(differing(records, ours[at:at + count], theirs[at:at + count]))
             at += count
             hunt.counts['differ'] += bool(differ)
-            for part, bits in differ:
+            for start, bits in differ:
                 if reduced < MOST_REDUCED:
-                    reduced += self.look_into(part, bits)
+                    reduced += self.look_into(start, bits)
+
+    def words(self, data: bytes) -> Tuple[Sequence[int], Sequence[int]]:
+        """Returns the words of both players. Raises ToolError if theirs gives fewer or more."""
+        bench = self.hunt.bench
+        ours, theirs = words_of(bench.ours, data, bench.seconds), words_of(bench.theirs, data, bench.seconds)
+        if len(theirs) != len(ours):
+            raise ToolError('%s: %d words of %d' % (bench.theirs.text, len(theirs), len(ours)))
+        return ours, theirs
+
+    def lost(self, records: List[Record]) -> str:
+        """Returns how their player breaks down at a sequence; nothing if it does not."""
+        try:
+            self.words(data_of([records]))
+        except ToolError as how:
+            return str(how)
+        return ''
 
     def keep_lost(self, records: List[Record], data: bytes, how: str) -> None:
-        """Keeps a sequence for which their player gives no words, unless a kind explains it."""
+        """Keeps a sequence for which their player gives no words, unless a kind explains it. Records that this does not
+        need are left out."""
+        for at in reversed(range(len(records))):
+            rest = records[:at] + records[at + 1:]
+            lost = self.lost(rest) if rest else ''
+            if lost:
+                records, data, how = rest, data_of([rest]), lost
         hunt, facts = self.hunt, facts_of(records)
         known = next((key for key, kind in hunt.store.kinds.items()
                       if kind.name == READS and kind.look == LOST and kind.rule <= facts), None)

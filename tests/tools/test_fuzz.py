@@ -23,7 +23,8 @@ from psxgpu.output import Content
 from psxgpu.packets import deciders
 from psxgpu.packets.generated import CLASSES
 from psxgpu.players.bench import LOST, Bench, DumpBench
-from psxgpu.players.looks import BIT_15, COLOURS, EDGES, NOTHING, OTHERS, STEP
+from psxgpu.players.looks import LOST as BROKEN
+from psxgpu.players.looks import ALONE, BIT_15, COLOURS, EDGES, NOTHING, OTHERS, STEP
 from psxgpu.players.named import Done, Player, player_of
 from psxgpu.reduce.features import name_of
 from psxgpu.stream import GP0, GP1, READ, STAT
@@ -95,6 +96,17 @@ class Parts(unittest.TestCase):
         self.assertIn('line, if a tie: cells at its edges', [cause.sentence for cause in found])
         self.assertIn('line, polygon with a drawing offset: cells at its edges', [cause.sentence for cause in found])
 
+    def test_causes_of_one_packet(self):
+        """A texel of another page may be transparent. A kind that was joined to one of another packet still takes cases
+        of its own packet. A sequence with a packet at which a player breaks down is a case of it."""
+        page = ['page', 'texture']
+        kinds = {'a': kind('rectangle', page, COLOURS), 'b': kind('polygon', page, COLOURS),
+                 'c': kind('polygon', ['a scaled texture', 'page', 'texture']), 'd': kind('line', ['polyline'], BROKEN),
+                 'e': Kind('reads', 'reads', BROKEN, ['E3h', 'line'], ['E3h', 'line']),
+                 'f': Kind('reads', 'reads', BROKEN, ['fill'], ['fill'])}
+        found = causes(kinds, Samples())
+        self.assertEqual(sorted(sorted(cause.keys) for cause in found), [['a', 'b', 'c'], ['d', 'e'], ['f']])
+
     def test_sequences(self):
         """What is open, unfinished or asked for in a sequence of records."""
         store, read, status = (GP0, 3, (0xC0000000, 0, 0x00010003)), (READ, 2, ()), (STAT, 1, ())
@@ -155,6 +167,15 @@ class Judging(unittest.TestCase):
         verdicts = DumpBench(self.ours, fault, ground_of(1)).judge([FILL, RECTANGLE])
         self.assertEqual([verdict.looks for verdict in verdicts], [set(), {STEP}])
         self.assertEqual(DumpBench(self.ours, Same('play'), ()).judge([FILL] * 3)[2].looks, set())
+
+    def test_area_of_ten_bits(self):
+        """A player that takes ten bits of the last row of the drawing area draws below the box of ours."""
+        def fault(name, words, registers):
+            return [words[0] | 0x7FC00] if words[0] >> 24 == 0xE4 and words[0] & 0x80000 else words
+        below = packed([(0xE40883FF,), (0x60FFFFFF, 100 << 16, 0x00020002)])
+        bench = Bench(self.ours, wrong.Wrong(fault), ground_of(1))
+        self.assertEqual(bench.judge([below])[0].looks, {ALONE})
+        self.assertIn('an area corner with Y above 511', facts_of(below))
 
     def test_break_down(self):
         line = packed([(0x48FFFFFF, 0, 5, 0x00050005, 0x50005, 0x50000, 0x55555555)])
@@ -249,14 +270,27 @@ class Asked(support.InFolder):
         return Asking(Bench(player_of(support.PLAYER), fault, ground_of(1)), store)
 
     def test_a_case(self):
-        """The Y flip of wide rectangles is lost. A second kind has another reason in its text, and the same cause."""
+        """The Y flip of wide rectangles is lost. A second kind has another reason in its text, and the same cause: one
+        row has nothing to flip."""
         flipped = [(0xE1002008,), (0xE407FFFF,), self.SPRITE]
         asking = self.asking(wrong.FAULTS['wide_unflipped'], a=(flipped, ['texture', 'y-flip', 'width above 16']),
                              b=(flipped, ['texture', 'height above 1']))
         asking.ask()
-        self.assertEqual((asking.store.kinds['a'].same, asking.store.kinds['b'].same), ([], ['a']))
+        self.assertEqual(asking.store.kinds['b'].same, ['a'])
         again = Store(self.path('kinds'), 'psxgpu fuzz').kinds
         self.assertEqual([cause.keys for cause in causes(again, Samples())], [['b', 'a']])
+
+    def test_bits_of_a_register(self):
+        """The window loses bit 4 of its mask Y: what a read returns and what is drawn are one."""
+        sprite = [(0xE1000108,), (0xE2000200,), (0xE407FFFF,), (0x65000000, 0, 0xA000, 0x00200010)]
+        asking = self.asking(wrong.FAULTS['window_without_bit_4'], a=(sprite, ['texture', 'window']))
+        capture = Capture(1).gp0([0xE2000200]).gp1(0x10000002).read(1).bytes()
+        asking.store.put('b', Kind('reads', 'reads', 'another word', ['E2h', 'GP1(10h) 2 to 5'], []),
+                         [Content(asking.store.path('kinds/b.capture'), capture)])
+        asking.ask()
+        self.assertEqual([kind.same for kind in asking.store.kinds.values()], [['b'], []])
+        (found,) = causes(asking.store.kinds, Samples())
+        self.assertEqual((found.key, found.labels), ('a', ['rectangle', 'reads']))
 
     LINE = [(0xE1000200,), (0xE407FFFF,), (0x40123456, 0, 0x00000008)]
     TRIANGLE = [(0xE1000200,), (0xE407FFFF,), (0x30123456, 0, 0x00123456, 0x00000010, 0x00123456, 0x00100000)]
