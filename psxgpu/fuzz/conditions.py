@@ -13,6 +13,7 @@ from psxgpu.packets.known import Packet, has_colors, is_scaled, is_shaded_line, 
 from psxgpu.packets.parts import line_parts, polygon_parts, rectangle_parts, signed, texcoord_of, vertex_of
 from psxgpu.players.bench import Experiment, Words, registers_of
 from psxgpu.reduce.features import FEATURES, active, name_of
+from psxgpu.reduce.needs import offset_of
 from psxgpu.reduce.plainer import segments
 from psxgpu.reduce.units import Unit
 
@@ -146,10 +147,24 @@ def texture_facts(packet: Packet) -> Set[str]:
     return out | {DEPTHS[depth]} | holding({
         'a page over the right edge': column * 64 + (64, 128, 256, 256)[depth] > 1024,
         'a palette over the right edge': depth < 2 and (clut & 63) * 16 + (16, 256)[depth] > 1024,
-        'a palette from row 256': depth < 2 and bool(clut >> 6 & 256),
+        'a palette from row 256': depth < 2 and bool(clut >> 6 & 256), 'it is drawn over its page': is_over_page(packet),
         'a window mask with a hole': any(m and m != 32 - (m & -m) for m in masks),
         'a window mask Y from 16': masks[1] > 15, 'a window mask X from 16': masks[0] > 15,
         'a window offset outside of its mask': bool(window >> 10 & 31 & ~masks[0] or window >> 15 & 31 & ~masks[1])})
+
+
+def is_over_page(packet: Packet) -> bool:
+    """Returns whether the box of a packet has cells of its texture page."""
+    mode, (ox, oy) = packet.registers[0xE1], offset_of(packet.registers)
+    points, (w, h) = [vertex_of(packet.words[1])], (1, 1)
+    if packet.name == RECTANGLE:
+        w, h = rectangle_parts(packet.words)[1]
+    else:
+        points = polygon_parts(packet.words)[0]
+    xs, ys = [x + ox for x, _ in points], [y + oy for _, y in points]
+    left, top = (mode & 15) * 64, (mode >> 4 & 1) * 256
+    right = left + (64, 128, 256, 256)[mode >> 7 & 3]
+    return min(xs) < right and max(xs) + w > left and min(ys) < top + 256 and max(ys) + h > top
 
 
 def fill_facts(words: Words) -> Set[str]:

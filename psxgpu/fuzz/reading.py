@@ -22,6 +22,7 @@ from psxgpu.stream import GP0, GP1, HEADS, KINDS, READ, STAT, encode
 SEQUENCES, MOST_REDUCED = 60, 2
 ALL = 0xFFFFFFFF            # bits
 ENDS: Record = (GP1, 1, (0,))
+CUT, INTERLACED = (0x28, 0x48, 0xA0), 0x08000024     # opcodes that are cut; the mode of 480 lines
 SETTINGS, IRQ = 7, 0x1F     # the upper three bits of E0h to FFh; the opcode that sets status bit 24
 STORES = frozenset(['width 0', 'height 0', 'an odd number of cells', 'size bits above its fields'])
 SIZES = (0x00000001, 0x00010000, 0x02010001, 0x00010401)      # of stores: 0, and with bits above the fields
@@ -163,11 +164,13 @@ class Reading:
             yield GP0, cut, tuple(packet[:cut])
         elif way == 4:
             size = r.choice((1, 1, 2, 3, 5)) | r.choice((1, 1, 2, 3)) << 16
-            size = size if r.random() < 0.9 else r.choice(SIZES)
+            if r.random() < 0.1:        # cells that are not 0 tell what is stored
+                size = r.choice(SIZES)
+                yield GP0, 3, (0x02000000 | r.getrandbits(24), 0, 0x01FF03FF)
             yield GP0, 3, (0xC0000000, r.randrange(600) | r.randrange(400) << 16, size)
             yield READ, r.choice((data_words(size), r.randrange(1, data_words(size) + 2))), ()
         else:
-            yield from r.choice((self.setting, self.drawn, self.read))()
+            yield from r.choice((self.setting, self.drawn, self.cut, self.read))()
 
     def read(self) -> Iterator[Record]:
         """Yields reads of nothing."""
@@ -183,10 +186,23 @@ class Reading:
     def drawn(self) -> Iterator[Record]:
         """Yields a fill or a rectangle, and reads of its cells: in interlaced modes, and without an area."""
         r = self.hunt.random
+        if r.random() < 0.3:
+            yield GP1, 1, (INTERLACED,)
         x, y, size = r.randrange(0, 64, 16), r.randrange(64), 16 | r.choice((1, 2, 3)) << 16
         yield GP0, 3, (r.choice((0x02, 0x60)) << 24 | r.getrandbits(24), x | y << 16, size)
         yield GP0, 3, (0xC0000000, x | y << 16, size)
         yield READ, data_words(size), ()
+
+    def cut(self) -> Iterator[Record]:
+        """Yields a packet that GP1(01h) ends, and reads of the cells that it may draw."""
+        r = self.hunt.random
+        words = (r.choice(CUT) << 24 | r.getrandbits(24), 0, 0x00040004, 0x00080000, 0x00080008)
+        count = r.randrange(3, 5)
+        yield GP0, 1, (0xE4000000 | 15 | 15 << 10,)
+        yield GP0, count, words[:count]
+        yield GP1, 1, (0x01000000,)
+        yield GP0, 3, (0xC0000000, 0, 0x00080008)
+        yield READ, 32, ()
 
     def step(self) -> None:
         """One batch of sequences."""
