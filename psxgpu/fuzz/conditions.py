@@ -147,7 +147,8 @@ def texture_facts(packet: Packet) -> Set[str]:
     return out | {DEPTHS[depth]} | holding({
         'a page over the right edge': column * 64 + (64, 128, 256, 256)[depth] > 1024,
         'a palette over the right edge': depth < 2 and (clut & 63) * 16 + (16, 256)[depth] > 1024,
-        'a palette from row 256': depth < 2 and bool(clut >> 6 & 256), 'it is drawn over its page': is_over_page(packet),
+        'a palette from row 256': depth < 2 and bool(clut >> 6 & 256),
+        'it is drawn over its page': is_over_page(packet),
         'a window mask with a hole': any(m and m != 32 - (m & -m) for m in masks),
         'a window mask Y from 16': masks[1] > 15, 'a window mask X from 16': masks[0] > 15,
         'a window offset outside of its mask': bool(window >> 10 & 31 & ~masks[0] or window >> 15 & 31 & ~masks[1])})
