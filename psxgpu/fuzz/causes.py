@@ -6,11 +6,18 @@ from dataclasses import replace
 from typing import Dict, FrozenSet, List, NamedTuple, Optional
 
 from psxgpu.fuzz.conditions import BLENDING, DEPTHS, INCIDENTAL, NO_CONDITIONS, VAGUE
-from psxgpu.fuzz.kinds import READS, STATUS, Kind, sentence
+from psxgpu.fuzz.kinds import READS, STATUS, UNUSED, Kind, sentence
 from psxgpu.fuzz.rules import Samples
-from psxgpu.players.looks import COLOURS, LOST, OUTSIDE, SHAPES, similar
+from psxgpu.players.looks import ALONE, COLOURS, LOST, NOTHING, OUTSIDE, SHAPES, similar
 
 GENERAL = NO_CONDITIONS.union(DEPTHS, BLENDING)     # two causes may need the same one of these
+SEQUENCES, UNUSED_BITS, ONE_MORE = {READS, STATUS}, 'unused-bits', ('width above 1', 'height above 1')
+PAIRS = [('x-flip', 'y-flip'), ('U below 0', 'V below 0'), ('U above 255', 'V above 255'),
+         ('cut on the left', 'cut at the top'), ('cut on the right', 'cut at the bottom'),
+         ('wider than 1023', 'higher than 511'), ('a negative offset X', 'a negative offset Y'),
+         ('a window mask X from 16', 'a window mask Y from 16')]
+PAIRS += [(box + ' over the right edge', box + ' over the bottom') for box in ('its box', 'its target', 'its source')]
+MIRRORED = {a: b for one, other in PAIRS for a, b in ((one, other), (other, one))}
 SAYS_NOTHING = frozenset(['texture', 'shades', 'quad', 'polyline'])
 Facts = FrozenSet[str]
 
@@ -34,6 +41,8 @@ def shared_rule(one: Kind, other: Kind) -> Optional[Facts]:
     both = one.rule & other.rule
     if {one.name, other.name} == {STATUS, READS}:       # the same control word is seen in both
         return both if both in (one.rule, other.rule) and any(fact.startswith('GP1') for fact in both) else None
+    if {one.look, other.look} == {NOTHING, ALONE}:      # the opposite
+        return None
     is_told = bool(one.rule - VAGUE or one.rule - SAYS_NOTHING and other.look in similar(one.look))
     return one.rule if one.rule == other.rule and is_told and one.decision == other.decision else None
 
@@ -47,11 +56,26 @@ def outside_rule(one: Kind, other: Kind) -> Optional[Facts]:
     return known.rule if known.rule and known.rule <= frozenset(stray.seed) else None
 
 
-def lost_rule(one: Kind, other: Kind) -> Optional[Facts]:
-    """Returns the same for a packet and a sequence at which their player breaks down: the sequence has such a
-    packet."""
-    packet, sequence = (one, other) if other.name == READS else (other, one)
-    return packet.rule if packet.name in sequence.seed else None
+def sequence_rule(one: Kind, other: Kind) -> Optional[Facts]:
+    """Returns the same for a packet and a sequence that has such a packet: their player breaks down at both, or the
+    packet needs bits that mean nothing, which the sequence has, too."""
+    packet, sequence = (one, other) if other.name in SEQUENCES else (other, one)
+    is_lost = {packet.look, sequence.look} == {LOST} and packet.name in sequence.seed
+    return packet.rule if is_lost or UNUSED_BITS in packet.rule and packet.name + UNUSED in sequence.rule else None
+
+
+def mirrored(rule: Facts) -> Facts:
+    """Returns facts with X and Y exchanged, without those that one more column or row is."""
+    return frozenset(MIRRORED.get(fact, fact) for fact in rule) - {*ONE_MORE}
+
+
+def mirrored_rule(one: Kind, other: Kind) -> Optional[Facts]:
+    """Returns the same for two kinds that look alike, one of which needs what the other needs in X and Y exchanged."""
+    both = mirrored(one.rule), other.rule - {*ONE_MORE}
+    is_told = both[0] != one.rule - {*ONE_MORE} and not min(both, key=len) <= VAGUE
+    is_alike = other.look in similar(one.look) or {one.look, other.look} <= {*SHAPES}
+    is_case = both[0] <= both[1] or both[1] <= both[0]
+    return one.rule if is_told and is_alike and is_case else None
 
 
 def common_rule(one: Kind, other: Kind, samples: Samples) -> Optional[Facts]:
@@ -61,17 +85,20 @@ def common_rule(one: Kind, other: Kind, samples: Samples) -> Optional[Facts]:
     condition. Of two packets, if both need the same facts about the same rule. What else is one cause, experiments have
     to show (`psxgpu.fuzz.asking`)."""
     both = one.rule & other.rule
-    if one.look == LOST and other.look == LOST and READS in (one.name, other.name) and one.name != other.name:
-        return lost_rule(one, other)
-    if one.name != other.name:
+    names = {one.name, other.name}
+    if len(names) > 1 and len(names & SEQUENCES) == 1:
+        return sequence_rule(one, other)
+    if len(names) > 1:
         return shared_rule(one, other)
+    if (one.look == LOST) != (other.look == LOST):
+        return None
     if OUTSIDE in (one.look, other.look):
         return outside_rule(one, other)
     is_alike = other.look in similar(one.look)
     if both in (one.rule, other.rule):
         return both if is_case(one, other, samples) else None
     is_told = any(fact not in GENERAL and not fact.startswith(INCIDENTAL) for fact in both)
-    return both if is_alike and is_told else None
+    return both if is_alike and is_told else mirrored_rule(one, other)
 
 
 def is_case(one: Kind, other: Kind, samples: Samples) -> bool:

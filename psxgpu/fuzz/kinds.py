@@ -16,6 +16,7 @@ from psxgpu.reduce.features import name_of
 
 KINDS = 'kinds'
 STATUS, READS = 'status', 'reads'        # names of kinds that are no packets
+UNUSED = ' with bits that mean nothing'  # a fact of a sequence: after the name of a packet
 KEPT = 10                   # batches after which a worker keeps what it has seen
 MOST_WORDS = 30             # of a capture; more are remarked
 Facts = FrozenSet[str]

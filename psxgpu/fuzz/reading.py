@@ -8,9 +8,10 @@ from typing import FrozenSet, Iterable, Iterator, List, NamedTuple, Optional, Se
 from psxgpu.command import ToolError
 from psxgpu.fuzz.conditions import transfer_facts
 from psxgpu.fuzz.hunt import Hunt
-from psxgpu.fuzz.kinds import READS, STATUS, Kind
+from psxgpu.fuzz.kinds import READS, STATUS, UNUSED, Kind
 from psxgpu.output import Content
-from psxgpu.packets.grammar import LINE, LOAD, POLYLINE, STORE, data_words, ends_polyline, name_and_length
+from psxgpu.packets.grammar import (COPY, LINE, LOAD, POLYLINE, STORE, data_words, ends_polyline,
+                                    name_and_length)
 from psxgpu.players.looks import LOST
 from psxgpu.players.trial_run import words_of
 from psxgpu.reduce.faults import WordsDiffer
@@ -62,6 +63,12 @@ def packet_facts(words: Sequence[int]) -> Tuple[str, int]:
     return ('a store', data_words(words[2])) if name == STORE else (name, 0)
 
 
+def unused_facts(words: Sequence[int]) -> Set[str]:
+    """Returns whether the opcode of a transfer has bits that mean nothing: players may not know it."""
+    name = name_and_length(words[0])[0]
+    return {name + UNUSED} if name in (COPY, LOAD, STORE) and words[0] >> 24 & 0x1F else set()
+
+
 def facts_of(records: Sequence[Record]) -> FrozenSet[str]:
     """Returns what a sequence has: control words, packets, and what is unfinished."""
     out: Set[str] = set()
@@ -75,7 +82,7 @@ def facts_of(records: Sequence[Record]) -> FrozenSet[str]:
             left -= count
         elif kind == GP0:
             text, left = packet_facts(words)
-            out.add(text)
+            out |= {text} | unused_facts(words)
             out |= transfer_facts(STORE, words) & STORES if text == 'a store' else set()
     if is_open or left > 0 and records[-1][0] == STAT:
         out = out - {'a store', 'an odd number of cells'} | {'an open store'}

@@ -103,9 +103,22 @@ class Parts(unittest.TestCase):
         kinds = {'a': kind('rectangle', page, COLOURS), 'b': kind('polygon', page, COLOURS),
                  'c': kind('polygon', ['a scaled texture', 'page', 'texture']), 'd': kind('line', ['polyline'], BROKEN),
                  'e': Kind('reads', 'reads', BROKEN, ['E3h', 'line'], ['E3h', 'line']),
-                 'f': Kind('reads', 'reads', BROKEN, ['fill'], ['fill'])}
+                 'f': Kind('reads', 'reads', BROKEN, ['fill'], ['fill']),
+                 'g': Kind('reads', 'reads', 'another word', ['fill'], ['fill'])}
         found = causes(kinds, Samples())
-        self.assertEqual(sorted(sorted(cause.keys) for cause in found), [['a', 'b', 'c'], ['d', 'e'], ['f']])
+        self.assertEqual(sorted(sorted(cause.keys) for cause in found), [['a', 'b', 'c'], ['d', 'e'], ['f'], ['g']])
+
+    def test_causes_in_x_and_y(self):
+        """What is the same with X and Y exchanged is one. Opposite looks of two packets are not, nor is a sequence one
+        with a packet, unless it has bits that mean nothing."""
+        kinds = {'a': kind('fill', ['its box over the bottom']), 'b': kind('fill', ['its box over the right edge']),
+                 'c': kind('load', ['tested-mask'], ALONE), 'd': kind('polygon', ['tested-mask'], NOTHING),
+                 'e': kind('copy', ['unused-bits'], NOTHING),
+                 'f': kind('status', ['copy', 'copy with bits that mean nothing'], 'bit 3'),
+                 'g': kind('status', ['copy'], 'bit 3')}
+        found = causes({key: kinds[key] for key in 'abcdef'}, Samples())
+        self.assertEqual(sorted(sorted(cause.keys) for cause in found), [['a', 'b'], ['c'], ['d'], ['e', 'f']])
+        self.assertEqual(len(causes({key: kinds[key] for key in 'eg'}, Samples())), 2)
 
     def test_sequences(self):
         """What is open, unfinished or asked for in a sequence of records."""
@@ -115,6 +128,7 @@ class Parts(unittest.TestCase):
                 ([store, (GP0, 1, (0xE1000000,)), read], {'an open store', 'E1h'}), ([read], {'nothing before it'}),
                 ([(GP0, 2, (0x20000000, 0)), status], {'an unfinished packet'}),
                 ([(GP1, 1, (0x10000003,)), read], {'GP1(10h) 2 to 5'}),
+                ([(GP0, 4, (0x81000000, 0, 0, 1)), status], {'copy', 'copy with bits that mean nothing'}),
                 ([(GP1, 1, (0x44000001,)), status], {'GP1 from 40h'})):
             self.assertEqual(sequence_facts(records), facts)
 
