@@ -63,7 +63,8 @@ class Wrong(support.InFolder):
     def test_output(self) -> None:
         """What a process writes word by word, and one that goes on for too long, after it closed its output or not."""
         for command, want in (('for k in 1 2 3; do echo $k; sleep 0.01; done #', Done(0, b'1\n2\n3\n', b'')),
-                              ('exec >&-; sleep 9 #', Done(None, b'', b'')), ('echo 1; sleep 9 #', Done(None, b'', b'')),
+                              ('exec >&-; sleep 9 #', Done(None, b'', b'')),
+                              ('echo 1; sleep 9 #', Done(None, b'', b'')),
                               ('wc -c; echo one >&2; exit 3 #', Done(3, b'12\n', b'one\n'))):
             with self.subTest(command):
                 self.assertEqual(CommandPlayer(command).run('play', EMPTY, 0.5), want)
