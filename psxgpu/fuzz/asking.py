@@ -10,8 +10,8 @@ from itertools import islice
 from random import Random
 from typing import Dict, Iterator, List, Optional
 
-from psxgpu.fuzz.conditions import NO_CONDITIONS, SETTINGS, VAGUE, facts_of
-from psxgpu.fuzz.kinds import KINDS, READS, Facts, Kind, Store
+from psxgpu.fuzz.conditions import NO_CONDITIONS, SETTINGS, VAGUE, drawing, facts_of
+from psxgpu.fuzz.kinds import KINDS, READS, STATUS, Facts, Kind, Store
 from psxgpu.fuzz.making import MOST_CELLS, Maker, packed, packets_of
 from psxgpu.fuzz.nearby import Nearby, without
 from psxgpu.packets.split import KEPT
@@ -19,6 +19,7 @@ from psxgpu.players.bench import Bench, Experiment, boxes_of, cells_of
 from psxgpu.players.looks import LOST, OUTSIDE
 from psxgpu.players.probes import size
 from psxgpu.players.trial_run import words_of
+from psxgpu.reduce.features import name_of
 from psxgpu.stream import GP0, Stream
 
 ASKED, LEAST = 12, 6        # experiments on each side of a fact, and how few decide nothing
@@ -72,11 +73,13 @@ class Asking:
         yield list(islice(lacking, ASKED))
 
     def needs(self, near: Nearby, kept: Facts, fact: str) -> Optional[bool]:
-        """Returns whether what has all the kept facts, of which one is asked about, hardly differs without this one;
-        None if that is not decided."""
-        shares = []
+        """Returns whether what has all the kept facts, of which one is asked about, hardly differs without this one, or
+        cannot be without it; None if that is not decided."""
+        shares = []     # type: List[float]
         for side in self.sides(near, kept, fact):
             shown = near.play(side)
+            if shares and not side:
+                return shares[0] >= MOSTLY
             if len(shown) < LEAST:
                 return None
             shares.append(sum(shown) / len(shown))
@@ -109,6 +112,15 @@ class Asking:
                        for one in having]
             return all(new != one for new, one in zip(lacking, having)) and not any(near.play(lacking))
         return False
+
+    def is_drawn(self, key: str, other: str) -> bool:
+        """Returns whether a kind of reads shows what a packet draws: this packet of its sequence, alone and in the whole
+        area, is of the other kind."""
+        general, packets = self.store.kinds[other], capture_of(self.store, key) or ()
+        drawn = [packet for packet in drawing(packets) if name_of(packet) == general.name][-1:]
+        one = (*packets[:len(SETTINGS)], *drawn)
+        looks = self.bench.judge([one])[0].looks if drawn else ()
+        return any(general.explains(general.name, facts_of(one), look) for look in looks)
 
     def is_case(self, key: str, other: str) -> bool:
         """Returns whether a kind is a case of another one, which has a condition."""
@@ -158,7 +170,9 @@ class Asking:
         names = [self.store.kinds[one].name for one in (key, other)]
         if names[0] == names[1]:
             return self.is_case(key, other)
-        return self.is_of_register(key, other) if names[1] == READS else self.is_shared(key, other)
+        if READS in names and STATUS not in names:
+            return self.is_of_register(key, other) if names[1] == READS else self.is_drawn(key, other)
+        return self.is_shared(key, other)
 
     def ask(self) -> None:
         """Asks about all pairs of kinds, and keeps what was found in each kind."""

@@ -294,6 +294,29 @@ class Asked(support.InFolder):
         again = Store(self.path('kinds'), 'psxgpu fuzz').kinds
         self.assertEqual([cause.keys for cause in causes(again, Samples())], [['b', 'a']])
 
+    def test_reads_of_what_is_drawn(self):
+        """Fills of 257 rows lose 256 of them. A sequence that reads the cells shows the same; one that reads a store of
+        an odd number of cells does not."""
+        asking = self.asking(wrong.FAULTS['low_fills'], a=([(0x02123456, 0, 0x01010010)], ['height above 255']))
+        asking.store.kinds['a'].look = OTHERS
+        for key, fill in (('b', (0x02123456, 0, 0x01000010)), ('c', (0x02123456, 0, 0x00010010))):
+            capture = Capture(1).gp0(fill).gp0([0xC0000000, 0, 0x00010001]).read(1).bytes()
+            asking.store.put(key, Kind('reads', 'reads', 'another word', ['a store', 'fill'], []),
+                             [Content(asking.store.path('kinds/%s.capture' % key), capture)])
+        asking.ask()
+        self.assertEqual([kind.same for kind in asking.store.kinds.values()], [[], ['a'], []])
+
+    def test_what_another_fact_implies(self):
+        """A player draws no line longer than a cell. One that is cut on the left is always longer."""
+        shorter = wrong.Wrong(lambda name, words, registers: [0] if name == 'line' and words[1] != words[2] else words)
+        line = [(0xE407FFFF,), (0x40123456, 0x7FF, 0)]
+        asking = self.asking(shorter, a=([(0xE407FFFF,), (0x40123456, 0, 8)], ['longer than a cell']),
+                             b=(line, ['cut on the left']))
+        for kind in asking.store.kinds.values():
+            kind.look = NOTHING
+        asking.ask()
+        self.assertEqual(asking.store.kinds['b'].same, ['a'])
+
     def test_bits_of_a_register(self):
         """The window loses bit 4 of its mask Y: what a read returns and what is drawn are one."""
         sprite = [(0xE1000108,), (0xE2000200,), (0xE407FFFF,), (0x65000000, 0, 0xA000, 0x00200010)]
