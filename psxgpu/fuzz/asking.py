@@ -10,7 +10,7 @@ from itertools import islice
 from random import Random
 from typing import Dict, Iterator, List, Optional
 
-from psxgpu.fuzz.conditions import NO_CONDITIONS, SETTINGS, VAGUE, drawing, facts_of
+from psxgpu.fuzz.conditions import NO_CONDITIONS, ONE_MORE, SETTINGS, VAGUE, drawing, facts_of
 from psxgpu.fuzz.kinds import KINDS, READS, STATUS, Facts, Kind, Store
 from psxgpu.fuzz.making import MOST_CELLS, Maker, packed, packets_of
 from psxgpu.fuzz.nearby import Nearby, without
@@ -23,7 +23,6 @@ from psxgpu.reduce.features import name_of
 from psxgpu.stream import GP0, Stream
 
 ASKED, LEAST = 12, 6        # experiments on each side of a fact, and how few decide nothing
-ONE_MORE = 'width above 1', 'height above 1'
 REGISTERS = KEPT[False]     # the bits of E1h to E6h
 ASKED_FOR = {'E%Xh' % number: 0xE0 + number for number in range(2, 6)}      # facts of sequences, and the registers
 HARDLY, MOSTLY = 0.1, 0.5   # shares of those that differ without the fact, and with it
@@ -114,8 +113,8 @@ class Asking:
         return False
 
     def is_drawn(self, key: str, other: str) -> bool:
-        """Returns whether a kind of reads shows what a packet draws: this packet of its sequence, alone and in the whole
-        area, is of the other kind."""
+        """Returns whether a kind of reads shows what a packet draws: this packet of its sequence, alone and in the
+        whole area, is of the other kind."""
         general, packets = self.store.kinds[other], capture_of(self.store, key) or ()
         drawn = [packet for packet in drawing(packets) if name_of(packet) == general.name][-1:]
         one = (*packets[:len(SETTINGS)], *drawn)

@@ -5,13 +5,13 @@ import itertools
 from dataclasses import replace
 from typing import Dict, FrozenSet, List, NamedTuple, Optional
 
-from psxgpu.fuzz.conditions import BLENDING, DEPTHS, INCIDENTAL, NO_CONDITIONS, VAGUE
+from psxgpu.fuzz.conditions import BLENDING, DEPTHS, INCIDENTAL, NO_CONDITIONS, ONE_MORE, VAGUE
 from psxgpu.fuzz.kinds import READS, STATUS, UNUSED, Kind, sentence
 from psxgpu.fuzz.rules import Samples
 from psxgpu.players.looks import ALONE, COLOURS, LOST, NOTHING, OUTSIDE, SHAPES, similar
 
 GENERAL = NO_CONDITIONS.union(DEPTHS, BLENDING)     # two causes may need the same one of these
-SEQUENCES, UNUSED_BITS, ONE_MORE = {READS, STATUS}, 'unused-bits', ('width above 1', 'height above 1')
+SEQUENCES, UNUSED_BITS = {READS, STATUS}, 'unused-bits'
 PAIRS = [('x-flip', 'y-flip'), ('U below 0', 'V below 0'), ('U above 255', 'V above 255'),
          ('cut on the left', 'cut at the top'), ('cut on the right', 'cut at the bottom'),
          ('wider than 1023', 'higher than 511'), ('a negative offset X', 'a negative offset Y'),
@@ -64,18 +64,13 @@ def sequence_rule(one: Kind, other: Kind) -> Optional[Facts]:
     return packet.rule if is_lost or UNUSED_BITS in packet.rule and packet.name + UNUSED in sequence.rule else None
 
 
-def mirrored(rule: Facts) -> Facts:
-    """Returns facts with X and Y exchanged, without those that one more column or row is."""
-    return frozenset(MIRRORED.get(fact, fact) for fact in rule) - {*ONE_MORE}
-
-
 def mirrored_rule(one: Kind, other: Kind) -> Optional[Facts]:
-    """Returns the same for two kinds that look alike, one of which needs what the other needs in X and Y exchanged."""
-    both = mirrored(one.rule), other.rule - {*ONE_MORE}
-    is_told = both[0] != one.rule - {*ONE_MORE} and not min(both, key=len) <= VAGUE
-    is_alike = other.look in similar(one.look) or {one.look, other.look} <= {*SHAPES}
-    is_case = both[0] <= both[1] or both[1] <= both[0]
-    return one.rule if is_told and is_alike and is_case else None
+    """Returns the same for two kinds, one of which needs what the other needs in X and Y exchanged, unless they look
+    opposite."""
+    plain = one.rule - ONE_MORE
+    both = frozenset(MIRRORED.get(fact, fact) for fact in plain), other.rule - ONE_MORE
+    is_told = both[0] != plain and not min(both, key=len) <= VAGUE and {one.look, other.look} != {NOTHING, ALONE}
+    return one.rule if is_told and (both[0] <= both[1] or both[1] <= both[0]) else None
 
 
 def common_rule(one: Kind, other: Kind, samples: Samples) -> Optional[Facts]:
@@ -84,7 +79,7 @@ def common_rule(one: Kind, other: Kind, samples: Samples) -> Optional[Facts]:
     Of one packet, they are one cause if one needs all that the other needs, or if they look alike and share a
     condition. Of two packets, if both need the same facts about the same rule. What else is one cause, experiments have
     to show (`psxgpu.fuzz.asking`)."""
-    both = one.rule & other.rule
+    both, plain = one.rule & other.rule, [kind.rule - ONE_MORE for kind in (one, other)]
     names = {one.name, other.name}
     if len(names) > 1 and len(names & SEQUENCES) == 1:
         return sequence_rule(one, other)
@@ -95,7 +90,7 @@ def common_rule(one: Kind, other: Kind, samples: Samples) -> Optional[Facts]:
     if OUTSIDE in (one.look, other.look):
         return outside_rule(one, other)
     is_alike = other.look in similar(one.look)
-    if both in (one.rule, other.rule):
+    if plain[0] & plain[1] in plain:
         return both if is_case(one, other, samples) else None
     is_told = any(fact not in GENERAL and not fact.startswith(INCIDENTAL) for fact in both)
     return both if is_alike and is_told else mirrored_rule(one, other)
@@ -105,8 +100,8 @@ def is_case(one: Kind, other: Kind, samples: Samples) -> bool:
     """Returns whether of two kinds, one of which needs all that the other needs, one is a case of the other. If the
     other is vague, they have to look alike, or both be about which cells are drawn; and what has the vague facts alone
     has to differ nearly as often."""
-    general, special = sorted((one, other), key=lambda kind: len(kind.rule))
-    if not general.is_vague:
+    general, special = sorted((one, other), key=lambda kind: len(kind.rule - ONE_MORE))
+    if not general.rule - ONE_MORE <= VAGUE:
         return True
     is_alike = (special.look in similar(general.look) or special.is_vague and {one.look, other.look} <= {*SHAPES}
                 or 'texture' in general.rule and general.look == COLOURS)       # a texel may be transparent
@@ -122,10 +117,23 @@ def shown_rule(one: Cause, other: Cause, kinds: Dict[str, Kind]) -> Optional[Fac
     return None
 
 
+def explained(kinds: Dict[str, Kind]) -> Dict[str, str]:
+    """Returns, for vague kinds, another kind that explains their smallest capture, the one that needs most."""
+    out: Dict[str, str] = {}
+    for key, kind in kinds.items():
+        seed = frozenset(kind.seed)
+        found = [other for other, known in kinds.items() if kind.is_vague and not known.is_vague
+                 and known.look in similar(kind.look) and known.explains(kind.name, seed, kind.look)]
+        if found and kind.look not in (OUTSIDE, LOST):
+            out[key] = max(found, key=lambda other: len(kinds[other].rule))
+    return out
+
+
 def causes(kinds: Dict[str, Kind], samples: Samples) -> List[Cause]:
     """Returns the causes of kinds, each with the kind of the fewest facts and words."""
-    order = sorted(kinds, key=lambda key: (len(kinds[key].rule) or 99, kinds[key].words, key))
-    found = [Cause(key, kinds[key], [key], [kinds[key].label]) for key in order]
+    order, taken = sorted(kinds, key=lambda key: (len(kinds[key].rule) or 99, kinds[key].words, key)), explained(kinds)
+    found = [Cause(key, kinds[key], [key, *(other for other in order if taken.get(other) == key)], [kinds[key].label])
+             for key in order if key not in taken]
     at = 0
     while at < len(found):
         joined = joined_with(found, at, kinds, samples)

@@ -25,6 +25,8 @@ NO_CONDITIONS = frozenset([*FEATURES, EARLIER])
 # Features that whole classes of packets have: what needs no other fact has no condition.
 VAGUE = frozenset(['quad', 'polyline', 'semi-transparency', 'factor', 'shades', 'texture', 'blend-mode', 'depth',
                    'page'])
+# A packet of one row or column may be drawn nowhere.
+ONE_MORE = frozenset(['width above 1', 'height above 1'])
 # How conditions begin that are often there by chance.
 INCIDENTAL = 'width above', 'height above', 'an odd number', 'one c', 'sides off', 'longer than', 'a fixed', 'cut '
 SETTINGS = range(0xE1, 0xE7)

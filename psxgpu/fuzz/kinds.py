@@ -32,7 +32,8 @@ IMPLIED = [(begin, ('texture', 'depth', 'page')) for begin in (
     ('several colours', ('shades',)), ('blending', ('semi-transparency', 'blend-mode')),
     ('a sum beyond', ('offset',)), ('an offset', ('offset',)), ('a negative offset', ('offset', 'an offset Y')),
     ('a window', ('window',)), ('a tie', ('sloped', 'longer than a cell')), ('steep', ('longer than a cell',)),
-    ('sloped', ('longer than a cell',)), ('it overlaps itself to', ('it overlaps itself',))]
+    ('an unfinished load', ('load',)), ('sloped', ('longer than a cell',)),
+    ('it overlaps itself to', ('it overlaps itself',))]
 
 
 @dataclass

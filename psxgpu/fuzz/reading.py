@@ -86,8 +86,13 @@ def facts_of(records: Sequence[Record]) -> FrozenSet[str]:
             out |= transfer_facts(STORE, words) & STORES if text == 'a store' else set()
     if is_open or left > 0 and records[-1][0] == STAT:
         out = out - {'a store', 'an odd number of cells'} | {'an open store'}
+    if 'an unfinished load' in out:
+        out.add(LOAD)
     if records[-1][0] == STAT:
         out -= {'an odd number of cells'}       # which matters in what is read
+    elif 'an open store' not in out and not any(kind == GP1 and words[0] >> 24 & 0x3F > 15
+                                                for kind, _, words in records):
+        out -= {'E%Xh' % number for number in range(1, 7)}      # settings that no question asks for
     return frozenset(out or {'nothing before it'})
 
 
@@ -218,14 +223,14 @@ class Reading:
 
     def judge(self, found: List[List[Record]]) -> None:
         """Compares sequences in one run of each player. If a player breaks down, in two halves."""
-        hunt, half, data = self.hunt, len(found) // 2, data_of(found)
+        hunt, half = self.hunt, len(found) // 2
         try:
-            ours, theirs = self.words(data)
+            ours, theirs = self.words(data_of(found))
         except ToolError as how:
             for part in (found[:half], found[half:]) if half else ():
                 self.judge(part)
             if not half:
-                self.keep_lost(found[0], data, str(how))
+                self.keep_lost(found[0], str(how))
             return
         at = reduced = 0
         for records in found:
@@ -253,23 +258,34 @@ class Reading:
             return str(how)
         return ''
 
-    def keep_lost(self, records: List[Record], data: bytes, how: str) -> None:
-        """Keeps a sequence for which their player gives no words, unless a kind explains it. Records that this does not
-        need are left out."""
+    def smaller(self, records: List[Record], how: str) -> Tuple[List[Record], str]:
+        """Returns a sequence without records and words that a break down does not need, and how it then ends."""
         for at in reversed(range(len(records))):
-            rest = records[:at] + records[at + 1:]
-            lost = self.lost(rest) if rest else ''
-            if lost:
-                records, data, how = rest, data_of([rest]), lost
+            kind, _, words = records[at]
+            forms: List[List[Record]] = [[]]
+            forms += [[(kind, k, words[:k])] for k in (1, 2, 4, 8, 16) if k < len(words)]
+            for form in forms:
+                rest = [*records[:at], *form, *records[at + 1:]]
+                lost = self.lost(rest) if rest else ''
+                if lost:
+                    records, how = rest, lost
+                    break
+        return records, how
+
+    def keep_lost(self, records: List[Record], how: str) -> None:
+        """Keeps a sequence for which their player gives no words, unless a kind explains it. Records and words that
+        this does not need are left out."""
+        records, how = self.smaller(records, how)
         hunt, facts = self.hunt, facts_of(records)
         known = next((key for key, kind in hunt.store.kinds.items()
                       if kind.name == READS and kind.look == LOST and kind.rule <= facts), None)
         words = sum(len(part) for _, _, part in records)
-        kind = Kind(READS, READS, LOST, sorted(facts), sorted(facts), words, texts_of(records), [how],
+        names = {name_and_length(part[0])[0] for kind, _, part in records if kind == GP0}
+        kind = Kind(READS, READS, LOST, sorted(facts), sorted(facts | names), words, texts_of(records), [how],
                     found=dict(seconds=hunt.time, captures=hunt.counts['captures']))
         key = known or '%s-%d-%d' % (READS, hunt.seed, len(hunt.store.kinds) + 1)
         if not known:
-            hunt.store.put(key, kind, [Content(hunt.store.path('kinds/%s.capture' % key), data)])
+            hunt.store.put(key, kind, [Content(hunt.store.path('kinds/%s.capture' % key), data_of([records]))])
         hunt.seen[key] += 1
 
     def unknown(self, new: New) -> int:

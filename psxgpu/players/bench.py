@@ -33,7 +33,7 @@ DROP = (GP1 << 24 | 1, 0x01000000)          # ends what is unfinished
 IDLE = (0,) * 12                # ends packets of a player that keeps them unfinished
 REGISTERS = range(0xE1, 0xE7)
 CLEAR = 0x01000000              # empties the caches of players that have some
-TENTH, LOWEST = 1 << 19, 511 << 10      # of the last row in E4h: its tenth bit, and the last row of all
+TENTH, LOWEST, LAST = 1 << 19, 511 << 10, 0x7FFFF   # of E4h: the tenth bit of the last row, the last row, all cells
 Words = Tuple[int, ...]
 Experiment = Tuple[Words, ...]
 Boxes = Tuple[List[Box], List[Box]]
@@ -79,14 +79,20 @@ def merged(boxes: Sequence[Box]) -> List[Box]:
 
 
 def wrapped_targets(name: str, words: Sequence[int], registers: Dict[int, int]) -> List[Box]:
-    """Returns the boxes of a packet whose sums of vertex and offset wrap at eleven bits, if they have more: some
-    players draw there."""
-    if name not in DRAWN or len(words) > SEGMENT and name == LINE or not is_far(Packet(name, words, registers)):
+    """Returns the boxes of a packet in which some players draw it: its sums of vertex and offset wrap at eleven bits,
+    if they have more; at the size of video memory, if it is drawn nowhere in it."""
+    if name not in DRAWN or len(words) > SEGMENT and name == LINE:
         return []
+    bits = 11, 11
+    if not is_far(Packet(name, words, registers)):
+        if target_of(name, words, {**registers, 0xE3: 0, 0xE4: LAST}):
+            return []
+        bits, registers = (10, 9), {**registers, 0xE3: 0, 0xE4: LAST}
     unit, (ox, oy) = Unit(name, tuple(words)), offset_of(registers)
     moved = list(words)
     for k in places_of(unit, 'vertex'):
-        moved[k] = corner(signed(words[k]) + ox & 0x7FF, signed(words[k] >> 16) + oy & 0x7FF)
+        moved[k] = corner(*((signed(words[k] >> shift) + by) % (1 << size)
+                            for shift, by, size in zip((0, 16), (ox, oy), bits)))
     return target_of(name, moved, {**registers, 0xE5: 0})
 
 
