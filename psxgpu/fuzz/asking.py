@@ -16,7 +16,7 @@ from psxgpu.fuzz.making import MOST_CELLS, Maker, packed, packets_of
 from psxgpu.fuzz.nearby import Nearby, without
 from psxgpu.packets.split import KEPT
 from psxgpu.players.bench import Bench, Experiment, boxes_of, cells_of
-from psxgpu.players.looks import LOST, OUTSIDE
+from psxgpu.players.looks import LOST, OUTSIDE, may_be_one
 from psxgpu.players.probes import size
 from psxgpu.players.trial_run import words_of
 from psxgpu.reduce.features import name_of
@@ -24,6 +24,7 @@ from psxgpu.stream import GP0, Stream
 
 ASKED, LEAST = 12, 6        # experiments on each side of a fact, and how few decide nothing
 REGISTERS = KEPT[False]     # the bits of E1h to E6h
+QUESTION = 'GP1(10h) 2 to 5'
 ASKED_FOR = {'E%Xh' % number: 0xE0 + number for number in range(2, 6)}      # facts of sequences, and the registers
 HARDLY, MOSTLY = 0.1, 0.5   # shares of those that differ without the fact, and with it
 
@@ -91,7 +92,7 @@ class Asking:
         """Returns the register that a kind of reads asks for, and the bits of it in which the last words differ."""
         kind, path = self.store.kinds[key], self.store.path(os.path.join(KINDS, key + '.capture'))
         opcodes = [opcode for name, opcode in ASKED_FOR.items() if name in kind.rule]
-        if len(opcodes) != 1 or not os.path.exists(path):
+        if len(opcodes) != 1 or QUESTION not in kind.rule or not os.path.exists(path):
             return {}
         with open(path, 'rb') as file:
             data = file.read()
@@ -109,8 +110,16 @@ class Asking:
             having = [near.middle, *islice((one for one in found if near.play([one])[0]), LEAST)]
             lacking = [tuple((packet[0] & ~bits,) if packet[0] >> 24 == opcode else packet for packet in one)
                        for one in having]
-            return all(new != one for new, one in zip(lacking, having)) and not any(near.play(lacking))
+            return (all(new != one for new, one in zip(lacking, having)) and not any(near.play(lacking))
+                    and all(map(self.draws, lacking)))
         return False
+
+    def draws(self, one: Experiment) -> bool:
+        """Returns whether our player draws anything."""
+        boxes = boxes_of(one)
+        before = b''.join(self.bench.cells(box).tobytes() for box in boxes[0])
+        words = self.bench.play(self.bench.ours, self.bench.capture([one], [boxes]), len(before) // 4)
+        return words.tobytes() != before
 
     def is_drawn(self, key: str, other: str) -> bool:
         """Returns whether a kind of reads shows what a packet draws: this packet of its sequence, alone and in the
@@ -125,6 +134,8 @@ class Asking:
         """Returns whether a kind is a case of another one, which has a condition."""
         kind, general, near = self.store.kinds[key], self.store.kinds[other], self.nearby(key)
         asked = general.rule - kind.rule
+        if not may_be_one(kind.look, general.look):
+            return False
         if near is None or not asked or not general.rule - NO_CONDITIONS or not general.rule <= near.facts:
             return False
         kept = kind.rule | general.rule

@@ -97,12 +97,14 @@ def common_rule(one: Kind, other: Kind, samples: Samples) -> Optional[Facts]:
 
 
 def is_case(one: Kind, other: Kind, samples: Samples) -> bool:
-    """Returns whether of two kinds, one of which needs all that the other needs, one is a case of the other. If the
-    other is vague, they have to look alike, or both be about which cells are drawn; and what has the vague facts alone
-    has to differ nearly as often."""
+    """Returns whether of two kinds, one of which needs all that the other needs, one is a case of the other. It is not
+    if other cells are drawn far more often with what else it needs. If the other is vague, they have to look alike, or
+    both be about which cells are drawn; and what has the vague facts alone has to differ nearly as often."""
     general, special = sorted((one, other), key=lambda kind: len(kind.rule - ONE_MORE))
     if not general.rule - ONE_MORE <= VAGUE:
-        return True
+        shapes = {special.look, general.look}
+        return not (shapes <= {*SHAPES} and special.look not in similar(general.look)
+                    and samples.is_apart(special.name, special.look, general.rule, special.rule))
     is_alike = (special.look in similar(general.look) or special.is_vague and {one.look, other.look} <= {*SHAPES}
                 or 'texture' in general.rule and general.look == COLOURS)       # a texel may be transparent
     return is_alike and not samples.is_apart(special.name, special.look, general.rule, special.rule)
@@ -159,11 +161,13 @@ def joined_with(found: List[Cause], at: int, kinds: Dict[str, Kind], samples: Sa
 
 
 def told_rule(one: Cause, other: Cause, kinds: Dict[str, Kind], samples: Samples) -> Optional[Facts]:
-    """Returns the facts that one cause of two needs, if any kind of one and any kind of the other that say something
-    are one by their facts."""
+    """Returns the facts that one cause of two needs, if a kind of one and a kind of the other are one by their facts.
+    Both have to need what their cause needs, which has to say something: a case of two causes does not join them."""
     rule = common_rule(one.kind, other.kind, samples)
     if rule is not None:
         return rule
-    pairs = itertools.product(*([kinds[key] for key in cause.keys if kinds[key].rule - SAYS_NOTHING]
+    if one.kind.rule <= SAYS_NOTHING or other.kind.rule <= SAYS_NOTHING:
+        return None
+    pairs = itertools.product(*([kinds[key] for key in cause.keys if kinds[key].rule == cause.kind.rule]
                                 for cause in (one, other)))
     return one.kind.rule if any(common_rule(a, b, samples) is not None for a, b in pairs) else None

@@ -20,6 +20,8 @@ from psxgpu.reduce.units import Unit
 Registers = Dict[int, int]
 Facts = FrozenSet[str]
 DRAWN = (POLYGON, LINE, RECTANGLE)
+BLENDING = 'blending B/2+F/2', 'blending B+F', 'blending B-F', 'blending B+F/4'
+DEPTHS = '4-bit texels', '8-bit texels', '15-bit texels', 'depth 3'
 EARLIER = 'an earlier packet'           # the experiment has more than one that draws
 NO_CONDITIONS = frozenset([*FEATURES, EARLIER])
 # Features that whole classes of packets have: what needs no other fact has no condition.
@@ -29,10 +31,16 @@ VAGUE = frozenset(['quad', 'polyline', 'semi-transparency', 'factor', 'shades', 
 ONE_MORE = frozenset(['width above 1', 'height above 1'])
 # How conditions begin that are often there by chance.
 INCIDENTAL = 'width above', 'height above', 'an odd number', 'one c', 'sides off', 'longer than', 'a fixed', 'cut '
+# How conditions begin, and the feature that each has.
+HAVING = [('blending', 'semi-transparency'), *((begin, 'texture') for begin in (
+    'a scaled', 'an even U', 'U ', 'V ', 'a page', 'a palette', 'a window ', 'it is drawn', *DEPTHS))]
 SETTINGS = range(0xE1, 0xE7)
-BLENDING = 'blending B/2+F/2', 'blending B+F', 'blending B-F', 'blending B+F/4'
-DEPTHS = '4-bit texels', '8-bit texels', '15-bit texels', 'depth 3'
 LOWER = (1, 16, 255, 511)               # sizes above these are conditions
+
+
+def closed(facts: Facts) -> Facts:
+    """Returns facts with the features that conditions among them have."""
+    return facts | {feature for begin, feature in HAVING if any(fact.startswith(begin) for fact in facts)}
 
 
 def holding(facts: Dict[str, bool]) -> Set[str]:
@@ -75,7 +83,7 @@ def polygon_facts(packet: Packet) -> Set[str]:
     (ax, ay), (bx, by), (cx, cy) = points[:3]
     is_box = len(points) == 4 and ay == by and ax == cx and points[3] == (bx, cy)
     return holding({'no area': (bx - ax) * (cy - ay) == (by - ay) * (cx - ax), 'a scaled texture': is_scaled(packet),
-                    'several colours': has_colors(colors), 'sides off the axes': not is_box,
+                    'several colours': has_colors(colors), 'sides off the axes': len(points) == 4 and not is_box,
                     'crossed vertices': len(points) == 4 and not is_box and is_crossed(points)})
 
 

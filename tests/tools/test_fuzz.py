@@ -9,7 +9,7 @@ from psxgpu.capture import Capture
 from psxgpu.errors import ToolError
 from psxgpu.fuzz.asking import Asking
 from psxgpu.fuzz.causes import causes
-from psxgpu.fuzz.conditions import facts_of
+from psxgpu.fuzz.conditions import closed, facts_of
 from psxgpu.fuzz.deciding import of_class, of_random
 from psxgpu.fuzz.hunt import Hunt, ground_of
 from psxgpu.fuzz.kinds import Kind, Store
@@ -24,7 +24,7 @@ from psxgpu.packets import deciders
 from psxgpu.packets.generated import CLASSES
 from psxgpu.players.bench import LOST, Bench, DumpBench
 from psxgpu.players.looks import LOST as BROKEN
-from psxgpu.players.looks import ALONE, BIT_15, COLOURS, EDGES, NOTHING, OTHERS, STEP
+from psxgpu.players.looks import ALONE, BIT_15, COLOURS, EDGES, NOTHING, OTHERS, STEP, may_be_one
 from psxgpu.players.named import Done, Player, player_of
 from psxgpu.reduce.features import name_of
 from psxgpu.stream import GP0, GP1, READ, STAT
@@ -45,6 +45,14 @@ class Parts(unittest.TestCase):
         self.assertLessEqual({'x-flip', 'an even U', 'texture', 'U below 0'}, facts_of(FLIPPED))
         self.assertNotIn('y-flip', facts_of(FLIPPED))
         self.assertIn('an earlier packet', facts_of((*FLIPPED, FLIPPED[-1])))
+
+    def test_what_conditions_have(self):
+        self.assertEqual(closed(frozenset(['an even U', 'a tie'])), {'an even U', 'a tie', 'texture'})
+        self.assertEqual(closed(frozenset(['blending B-F'])), {'blending B-F', 'semi-transparency'})
+
+    def test_looks_of_one(self):
+        self.assertTrue(may_be_one(NOTHING, EDGES) and may_be_one(COLOURS, EDGES) and may_be_one(STEP, COLOURS))
+        self.assertFalse(may_be_one(NOTHING, COLOURS) or may_be_one(BIT_15, NOTHING))
 
     def test_making(self):
         """Whatever is made has six settings, then packets that draw."""
