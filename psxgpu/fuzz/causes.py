@@ -8,7 +8,7 @@ from typing import Dict, FrozenSet, List, NamedTuple, Optional
 from psxgpu.fuzz.conditions import BLENDING, DEPTHS, INCIDENTAL, NO_CONDITIONS, ONE_MORE, VAGUE
 from psxgpu.fuzz.kinds import READS, STATUS, UNUSED, Kind, sentence
 from psxgpu.fuzz.rules import Samples
-from psxgpu.players.looks import ALONE, COLOURS, LOST, NOTHING, OUTSIDE, SHAPES, similar
+from psxgpu.players.looks import ALONE, COLOURS, LOST, NOTHING, OUTSIDE, SHAPES, may_be_one, similar
 
 GENERAL = NO_CONDITIONS.union(DEPTHS, BLENDING)     # two causes may need the same one of these
 SEQUENCES, UNUSED_BITS = {READS, STATUS}, 'unused-bits'
@@ -98,13 +98,14 @@ def common_rule(one: Kind, other: Kind, samples: Samples) -> Optional[Facts]:
 
 def is_case(one: Kind, other: Kind, samples: Samples) -> bool:
     """Returns whether of two kinds, one of which needs all that the other needs, one is a case of the other. It is not
-    if other cells are drawn far more often with what else it needs. If the other is vague, they have to look alike, or
-    both be about which cells are drawn; and what has the vague facts alone has to differ nearly as often."""
+    if no fault looks as both do, or if other cells are drawn far more often with what else it needs. If the other is
+    vague, they have to look alike, or both be about which cells are drawn; and what has the vague facts alone has to
+    differ nearly as often."""
     general, special = sorted((one, other), key=lambda kind: len(kind.rule - ONE_MORE))
     if not general.rule - ONE_MORE <= VAGUE:
-        shapes = {special.look, general.look}
-        return not (shapes <= {*SHAPES} and special.look not in similar(general.look)
-                    and samples.is_apart(special.name, special.look, general.rule, special.rule))
+        is_apart = {special.look, general.look} <= {*SHAPES} and special.look not in similar(general.look) and (
+            samples.is_apart(special.name, special.look, general.rule, special.rule))
+        return (special.name in SEQUENCES or may_be_one(special.look, general.look)) and not is_apart
     is_alike = (special.look in similar(general.look) or special.is_vague and {one.look, other.look} <= {*SHAPES}
                 or 'texture' in general.rule and general.look == COLOURS)       # a texel may be transparent
     return is_alike and not samples.is_apart(special.name, special.look, general.rule, special.rule)
@@ -152,7 +153,8 @@ def joined_with(found: List[Cause], at: int, kinds: Dict[str, Kind], samples: Sa
         if rule is None:
             rule = told_rule(cause, other, kinds, samples)
         if rule is not None:
-            main, more = (other, cause) if cause.kind.name == READS else (cause, other)     # a packet says more
+            is_turned = cause.kind.name == READS and other.kind.name not in SEQUENCES       # a packet says more
+            main, more = (other, cause) if is_turned else (cause, other)
             found.remove(other)
             found[at] = Cause(main.key, replace(main.kind, needs=sorted(rule)), main.keys + more.keys,
                               [*dict.fromkeys(main.labels + more.labels)])

@@ -20,9 +20,10 @@ def similar(look: str) -> FrozenSet[str]:
 
 def may_be_one(one: str, other: str) -> bool:
     """Returns whether one fault may look in both ways: as shapes, or as values and parts of a shape, since a texel may
-    be transparent."""
+    be transparent. Bit 15 may be all that a player draws."""
     looks = {one, other}
-    return other in similar(one) or looks <= {*SHAPES} or looks <= {*VALUES, EDGES, OTHERS}
+    return (other in similar(one) or looks <= {*SHAPES} or looks <= {*VALUES, EDGES, OTHERS}
+            or BIT_15 in looks and not looks.isdisjoint((NOTHING, ALONE)))
 
 
 def shape_of(before: array.array[int], ours: array.array[int], theirs: array.array[int], cells: Sequence[int],

@@ -52,7 +52,8 @@ class Parts(unittest.TestCase):
 
     def test_looks_of_one(self):
         self.assertTrue(may_be_one(NOTHING, EDGES) and may_be_one(COLOURS, EDGES) and may_be_one(STEP, COLOURS))
-        self.assertFalse(may_be_one(NOTHING, COLOURS) or may_be_one(BIT_15, NOTHING))
+        self.assertTrue(may_be_one(BIT_15, NOTHING))
+        self.assertFalse(may_be_one(NOTHING, COLOURS) or may_be_one(STEP, ALONE))
 
     def test_making(self):
         """Whatever is made has six settings, then packets that draw."""
