@@ -27,7 +27,7 @@ READER = '#!/bin/sh\ncat > /dev/null\nfor target; do :; done\necho > "$target"\n
 TOOLS = ('check CAPTURE', 'packets CAPTURE --line', 'packets CAPTURE --name load --line', 'heat CAPTURE OUT.png',
          'textures CAPTURE -o OUT', 'film CAPTURE OUT.mp4', 'film CAPTURE OUT.mp4 --ffmpeg READER',
          'compare CAPTURE CAPTURE')
-WITH_JOBS = ('check', 'heat')
+WITH_JOBS = ('check', 'compare', 'heat', 'textures')
 
 
 def repeated(path, times):

@@ -16,6 +16,7 @@ SIGNALS = (signal.SIGINT, signal.SIGTERM)
 FIRST_STATUS = 128          # the status of a run that a signal ended is this plus the number of the signal
 RUNNING: Set["subprocess.Popen[bytes]"] = set()
 HELD: List[List[int]] = []  # for each block of `held`: the signals that came in it
+SHARED: List[bool] = []     # not empty in a process that a tool starts of itself: what it starts ends with it
 
 
 class Stopped(KeyboardInterrupt):
@@ -26,10 +27,18 @@ class Stopped(KeyboardInterrupt):
         self.number = number
 
 
+def share_session() -> None:
+    """Lets the processes that this one starts be of its own session: whoever ends the session ends all of them."""
+    SHARED.append(True)
+
+
 def kill(child: "subprocess.Popen[bytes]") -> None:
-    """Ends a process and what it started, which is a session of its own."""
+    """Ends a process and what it started, which is a session of its own unless the session is shared."""
     with contextlib.suppress(ProcessLookupError, PermissionError):
-        os.killpg(child.pid, signal.SIGKILL)
+        if SHARED:
+            child.kill()
+        else:
+            os.killpg(child.pid, signal.SIGKILL)
 
 
 def end(child: "subprocess.Popen[bytes]") -> None:
@@ -72,7 +81,8 @@ def session(words: List[str], **settings: Any) -> Iterator["subprocess.Popen[byt
     child: Optional["subprocess.Popen[bytes]"] = None
     try:
         with held():
-            child = subprocess.Popen(words, start_new_session=True, **settings) # pylint: disable=consider-using-with
+            child = subprocess.Popen(words, start_new_session=not SHARED,       # pylint: disable=consider-using-with
+                                     **settings)
             RUNNING.add(child)
         yield child
     except BaseException:

@@ -20,7 +20,7 @@ import argparse
 import json
 from typing import Dict
 
-from psxgpu import progress
+from psxgpu import jobs, progress
 from psxgpu.command import DIFFERENT, SAME, decimal, title
 from psxgpu.files import read_capture
 from psxgpu.fuzz.deciding import DECIDED, of_class
@@ -42,6 +42,7 @@ def arguments(parser: argparse.ArgumentParser) -> None:
     parser.add_argument('--last', type=decimal(1, 1 << 62), default=1 << 60, metavar='EVENT',
                         help='the last event to compare (default: that of the capture)')
     parser.add_argument('--json', action='store_true', help='print an object with an entry for each class')
+    jobs.argument(parser)
     player.seconds_argument(parser)
     parser.add_argument('--reduce', '-o', type=tree('psxgpu audit'), metavar='DIR',
                         help='write the smallest capture for each class that differs, and index.html, a table of them')
@@ -54,7 +55,7 @@ def run(words: argparse.Namespace) -> int:
     for one, role in ((ours, OURS), (theirs, THEIRS)):
         try_words(one, role)
     with progress.shown(name, is_quiet=True):
-        rows = audit(data, ours, theirs, words.first, words.last, name)
+        rows = audit(data, ours, theirs, words.first, words.last, name, words.jobs)
     if words.json:
         print(json.dumps({kind: row.as_object() for kind, row in sorted(rows.items())}, indent=1))
     else:

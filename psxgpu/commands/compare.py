@@ -21,7 +21,7 @@ import argparse
 import os
 from typing import List, Tuple
 
-from psxgpu import progress
+from psxgpu import jobs, progress
 from psxgpu.command import DIFFERENT, SAME, ToolError, decimal, title
 from psxgpu.difference import Difference, Grid, beside
 from psxgpu.files import is_recording, plain
@@ -42,6 +42,7 @@ def arguments(parser: argparse.ArgumentParser) -> None:
                         help='the picture to write of ours, theirs and the difference, side by side')
     parser.add_argument('--marks', action='store_true',
                         help='of recordings: frames end at marks (GP1 3Fh) and not at new display starts')
+    jobs.argument(parser)
     player.argument(parser)
 
 
@@ -88,7 +89,7 @@ def compare_recordings(words: argparse.Namespace) -> int:
     program, names = player.find(words.player), (title(words.ours), title(words.theirs))
     with plain(words.ours) as ours, plain(words.theirs) as theirs:
         with progress.shown('compare', is_quiet=True):
-            finding = frames.first_difference(names, (ours, theirs), program, words.marks)
+            finding = frames.first_difference(names, (ours, theirs), program, words.marks, words.jobs)
         print('\n'.join(finding.lines))
         if finding.is_same:
             return SAME

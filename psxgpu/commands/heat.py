@@ -17,13 +17,12 @@ Status: 0 written, 2 an error.
 from __future__ import annotations
 
 import argparse
-from typing import List, Optional
 
 from psxgpu import jobs
 from psxgpu.command import ToolError, decimal, title
 from psxgpu.errors import counted
-from psxgpu.heat.counting import Counter, Frame
-from psxgpu.heat.picture import Counts, picture
+from psxgpu.heat.picture import picture
+from psxgpu.heat.shown import shown_of
 from psxgpu.image import write_image
 from psxgpu.files import plain
 from psxgpu.output import Picture, Source, once
@@ -44,42 +43,11 @@ def arguments(parser: argparse.ArgumentParser) -> None:
     player.argument(parser)
 
 
-def frame_line(number: int, frame: Frame, counts: Optional[Counts]) -> str:
-    """Returns the line of a frame."""
-    if counts is None:
-        return '%d %d 0 0 0.00 0' % (number, frame.packets)
-    total, covered = counts.total(), counts.covered()
-    return '%d %d %d %d %.2f %d' % (number, frame.packets, total, covered, total / max(covered, 1), counts.most())
-
-
-class Shown:
-    """The lines of all frames, and the number and the counts of the wanted frame, or of that in which most is drawn."""
-
-    def __init__(self, wanted: Optional[int]) -> None:
-        self.wanted = wanted
-        self.lines: List[str] = []
-        self.number, self.most = 0, -1
-        self.counts: Optional[Counts] = None
-
-    def take(self, frame: Frame, rows: int) -> None:
-        """Takes the next frame."""
-        number = len(self.lines) + 1
-        counts = Counts(frame, rows) if frame.sums or frame.areas else None
-        self.lines.append(frame_line(number, frame, counts))
-        moved = sum((x2 - x1 + 1) * (y2 - y1 + 1) for x1, y1, x2, y2 in frame.areas)
-        drawn = counts.total() - moved if counts else -1
-        if number == self.wanted or not self.wanted and frame.sums and drawn > self.most:
-            self.number, self.counts, self.most = number, counts, drawn
-
-
 def run(words: argparse.Namespace) -> None:
     """Runs the command."""
     program, name = player.find(words.player), title(words.capture)
-    shown = Shown(words.frame)
     with plain(words.capture) as path, flattened(path, program) as flat:
-        walk = Walk(flat, name, program)
-        for frame in Counter(walk, FLIP if words.flips else MARK, words.jobs).counted():
-            shown.take(frame, 1024 if walk.is_tall else 512)
+        shown = shown_of(Walk(flat, name, program), FLIP if words.flips else MARK, words.frame, words.jobs)
     if words.frame and words.frame > len(shown.lines):
         raise ToolError('%s: there is no frame %d: it has %s' % (
             name, words.frame, counted(len(shown.lines), 'frame')))

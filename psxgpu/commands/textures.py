@@ -16,9 +16,9 @@ Status: 0 written, 2 an error.
 from __future__ import annotations
 
 import argparse
-import contextlib
 import os
 
+from psxgpu import jobs
 from psxgpu.command import title
 from psxgpu.errors import counted
 from psxgpu.files import plain
@@ -26,9 +26,9 @@ from psxgpu.output import Source, folder, tree
 from psxgpu.players import player
 from psxgpu.players.flat import flattened
 from psxgpu.players.listed import Walk
-from psxgpu.textures.collect import Collector
 from psxgpu.textures.page import page, sheet
-from psxgpu.textures.pixels import distinct, png_rgba, without_parts
+from psxgpu.textures.parts import collected
+from psxgpu.textures.pixels import png_rgba, without_parts
 
 
 def arguments(parser: argparse.ArgumentParser) -> None:
@@ -38,6 +38,7 @@ def arguments(parser: argparse.ArgumentParser) -> None:
                         help='the folder to write (default: %(default)s)')
     parser.add_argument('--parts', action='store_true', help='also write textures that are part of another one')
     parser.add_argument('--half', action='store_true', help='texels with bit 15 are half transparent')
+    jobs.argument(parser)
     player.argument(parser)
 
 
@@ -45,10 +46,8 @@ def run(words: argparse.Namespace) -> None:
     """Runs the command."""
     program, name = player.find(words.player), title(words.capture)
     with plain(words.capture) as path, flattened(path, program) as flat:
-        collector = Collector(Walk(flat, name, program))
-        with contextlib.closing(collector.questions):
-            collector.go()
-            textures = distinct(collector.used(), words.half)
+        found = collected(Walk(flat, name, program), words.half, words.jobs)
+    textures = found.textures
     count = len(textures)
     if not words.parts:
         textures = without_parts(textures)
@@ -59,5 +58,5 @@ def run(words: argparse.Namespace) -> None:
         if textures:
             out.put('sheet.png', sheet(textures))
     print('%s, %d of them parts of others; %s for %s'
-          % (counted(count, 'texture'), count - len(textures), counted(len(collector.asked), 'question'),
-             counted(collector.packets, 'packet')))
+          % (counted(count, 'texture'), count - len(textures), counted(found.questions, 'question'),
+             counted(found.packets, 'packet')))

@@ -13,23 +13,34 @@ from psxgpu.packets.known import Packet, has_colors, is_scaled, is_shaded_line, 
 from psxgpu.packets.parts import line_parts, polygon_parts, rectangle_parts, signed, texcoord_of, vertex_of
 from psxgpu.players.bench import Experiment, Words, registers_of
 from psxgpu.reduce.features import FEATURES, active, name_of
+from psxgpu.reduce.needs import offset_of
 from psxgpu.reduce.plainer import segments
 from psxgpu.reduce.units import Unit
 
 Registers = Dict[int, int]
 Facts = FrozenSet[str]
 DRAWN = (POLYGON, LINE, RECTANGLE)
+BLENDING = 'blending B/2+F/2', 'blending B+F', 'blending B-F', 'blending B+F/4'
+DEPTHS = '4-bit texels', '8-bit texels', '15-bit texels', 'depth 3'
 EARLIER = 'an earlier packet'           # the experiment has more than one that draws
 NO_CONDITIONS = frozenset([*FEATURES, EARLIER])
 # Features that whole classes of packets have: what needs no other fact has no condition.
 VAGUE = frozenset(['quad', 'polyline', 'semi-transparency', 'factor', 'shades', 'texture', 'blend-mode', 'depth',
                    'page'])
+# A packet of one row or column may be drawn nowhere.
+ONE_MORE = frozenset(['width above 1', 'height above 1'])
 # How conditions begin that are often there by chance.
 INCIDENTAL = 'width above', 'height above', 'an odd number', 'one c', 'sides off', 'longer than', 'a fixed', 'cut '
+# How conditions begin, and the feature that each has.
+HAVING = [('blending', 'semi-transparency'), *((begin, 'texture') for begin in (
+    'a scaled', 'an even U', 'U ', 'V ', 'a page', 'a palette', 'a window ', 'it is drawn', *DEPTHS))]
 SETTINGS = range(0xE1, 0xE7)
-BLENDING = 'blending B/2+F/2', 'blending B+F', 'blending B-F', 'blending B+F/4'
-DEPTHS = '4-bit texels', '8-bit texels', '15-bit texels', 'depth 3'
 LOWER = (1, 16, 255, 511)               # sizes above these are conditions
+
+
+def closed(facts: Facts) -> Facts:
+    """Returns facts with the features that conditions among them have."""
+    return facts | {feature for begin, feature in HAVING if any(fact.startswith(begin) for fact in facts)}
 
 
 def holding(facts: Dict[str, bool]) -> Set[str]:
@@ -72,7 +83,7 @@ def polygon_facts(packet: Packet) -> Set[str]:
     (ax, ay), (bx, by), (cx, cy) = points[:3]
     is_box = len(points) == 4 and ay == by and ax == cx and points[3] == (bx, cy)
     return holding({'no area': (bx - ax) * (cy - ay) == (by - ay) * (cx - ax), 'a scaled texture': is_scaled(packet),
-                    'several colours': has_colors(colors), 'sides off the axes': not is_box,
+                    'several colours': has_colors(colors), 'sides off the axes': len(points) == 4 and not is_box,
                     'crossed vertices': len(points) == 4 and not is_box and is_crossed(points)})
 
 
@@ -147,9 +158,24 @@ def texture_facts(packet: Packet) -> Set[str]:
         'a page over the right edge': column * 64 + (64, 128, 256, 256)[depth] > 1024,
         'a palette over the right edge': depth < 2 and (clut & 63) * 16 + (16, 256)[depth] > 1024,
         'a palette from row 256': depth < 2 and bool(clut >> 6 & 256),
+        'it is drawn over its page': is_over_page(packet),
         'a window mask with a hole': any(m and m != 32 - (m & -m) for m in masks),
         'a window mask Y from 16': masks[1] > 15, 'a window mask X from 16': masks[0] > 15,
         'a window offset outside of its mask': bool(window >> 10 & 31 & ~masks[0] or window >> 15 & 31 & ~masks[1])})
+
+
+def is_over_page(packet: Packet) -> bool:
+    """Returns whether the box of a packet has cells of its texture page."""
+    mode, (ox, oy) = packet.registers[0xE1], offset_of(packet.registers)
+    points, (w, h) = [vertex_of(packet.words[1])], (1, 1)
+    if packet.name == RECTANGLE:
+        w, h = rectangle_parts(packet.words)[1]
+    else:
+        points = polygon_parts(packet.words)[0]
+    xs, ys = [x + ox for x, _ in points], [y + oy for _, y in points]
+    left, top = (mode & 15) * 64, (mode >> 4 & 1) * 256
+    right = left + (64, 128, 256, 256)[mode >> 7 & 3]
+    return min(xs) < right and max(xs) + w > left and min(ys) < top + 256 and max(ys) + h > top
 
 
 def fill_facts(words: Words) -> Set[str]:

@@ -179,7 +179,7 @@ class Hunt:
             self.counts.update([missing] if missing else [])
             if not found or missing:
                 return
-            kind, files = found[:2]
+            kind, files = found[0], found[1]()
         kind.found = dict(seconds=self.time, captures=self.counts['captures'], reduced=round(self.time - begin, 1))
         key = '%s-%d-%d' % (kind.label, self.seed, len(self.store.kinds) + 1)
         path = self.store.path('kinds/' + key)

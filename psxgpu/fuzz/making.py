@@ -22,6 +22,7 @@ EDGES = (0, 0, 1, 2, 3, 7, 8, 15, 16, 17, 31, 32, 63, 64, 65, 127, 128, 255, 256
          1023, -1, -2, -16, -512, -1023, -1024)
 SMALL = (1, 1, 2, 3, 4, 5, 7, 8, 9, 15, 16, 17, 24, 31, 32, 33, 40)
 LIMITS = (0, 255, 256, 257, 300, 510, 511, 512, 513, 1008, 1009, 1022, 1023, 1024)
+FIELDS = {0xE2: (0, 5, 10, 15, 20), 0xE3: (0, 10, 20), 0xE4: (0, 10, 20), 0xE5: (0, 11, 22), 0xE6: (0, 1, 2)}
 MASKS = (1, 3, 7, 15, 31, 30, 28, 24, 16, 5)
 MOST_DATA = 2000            # words of a load
 OPCODES: Dict[str, Sequence[int]] = {
@@ -178,12 +179,15 @@ class Maker:
         r, out, last = self.random, list(old), old[-1]
         way = r.randrange(7)
         if way == 0:
-            words = r.choice(self.settings())
+            words = self.other_setting(old) if r.random() < 0.5 else r.choice(self.settings())
             out[setting(old, words[0] >> 24)] = words
         elif way == 1 and name_of(last) in (POLYGON, LINE, RECTANGLE):
             out[-1] = (last[0] ^ r.choice((2, 4) if name_of(last) == LINE else (1, 2)) << 24, *last[1:])
         elif way == 2:
             out = list(map(FEATURES[r.choice(list(FEATURES))], old))
+        elif way == 3 and name_of(last) == POLYGON and last[0] >> 24 & TEXTURED:
+            at = 5 if last[0] >> 24 & SHADED else 4     # the page of a textured polygon
+            out[-1] = (*last[:at], last[at] ^ 0x10000 << r.randrange(9), *last[at + 1:])
         elif way == 3:
             at = setting(old, 0xE1)
             out[at] = (old[at][0] ^ 1 << r.randrange(14),)
@@ -192,6 +196,17 @@ class Maker:
         else:
             out[-1] = self.near(last)
         return tuple(out)
+
+    def other_setting(self, old: Experiment) -> Words:
+        """Returns a setting with another number: one that is not plain, if there is one."""
+        r, found = self.random, {words[0] >> 24: words for words in old if words[0] >> 24 in FIELDS}
+        opcode = r.choice([opcode for opcode, words in found.items() if words != PLAIN[opcode]] or list(found))
+        at = r.randrange(len(FIELDS[opcode]) - 1)
+        shift, end = FIELDS[opcode][at:at + 2]
+        mask, value = (1 << end) - (1 << shift), found[opcode][0]
+        new = r.choice((value + (1 << shift), value - (1 << shift), value ^ 1 << r.randrange(shift, end),
+                        r.choice(EDGES) << shift))
+        return (value & ~mask | new & mask,)
 
     def regular(self, packet: Words) -> Words:
         """Returns a polygon on the axes or of one colour, a line on an axis, a rectangle whose size is given in another

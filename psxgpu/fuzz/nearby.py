@@ -8,7 +8,7 @@ import itertools
 from collections import Counter
 from typing import Callable, Dict, FrozenSet, Iterable, Iterator, List, NamedTuple, Optional, Sequence
 
-from psxgpu.fuzz.conditions import EARLIER, INCIDENTAL, NO_CONDITIONS, drawing, facts_of
+from psxgpu.fuzz.conditions import EARLIER, INCIDENTAL, NO_CONDITIONS, closed, drawing, facts_of
 from psxgpu.fuzz.making import MOST_CELLS, Maker
 from psxgpu.players.bench import Bench, Experiment, cells_of
 from psxgpu.players.looks import similar
@@ -136,5 +136,5 @@ class Nearby:
             self.aim(conditions - chosen, chosen)
             best = most_telling(self.seen(chosen), conditions - chosen)
             if best is None:
-                return chosen
+                return closed(chosen)
             chosen |= {best}

@@ -3,14 +3,15 @@ from __future__ import annotations
 
 import tempfile
 from collections import Counter
-from typing import FrozenSet, Iterator, List, NamedTuple, Optional, Sequence, Set, Tuple
+from typing import FrozenSet, Iterable, Iterator, List, NamedTuple, Optional, Sequence, Set, Tuple
 
 from psxgpu.command import ToolError
 from psxgpu.fuzz.conditions import transfer_facts
 from psxgpu.fuzz.hunt import Hunt
-from psxgpu.fuzz.kinds import READS, STATUS, Kind
+from psxgpu.fuzz.kinds import READS, STATUS, UNUSED, Kind
 from psxgpu.output import Content
-from psxgpu.packets.grammar import LINE, LOAD, POLYLINE, STORE, data_words, ends_polyline, name_and_length
+from psxgpu.packets.grammar import (COPY, LINE, LOAD, POLYLINE, STORE, data_words, ends_polyline,
+                                    name_and_length)
 from psxgpu.players.looks import LOST
 from psxgpu.players.trial_run import words_of
 from psxgpu.reduce.faults import WordsDiffer
@@ -22,7 +23,8 @@ from psxgpu.stream import GP0, GP1, HEADS, KINDS, READ, STAT, encode
 SEQUENCES, MOST_REDUCED = 60, 2
 ALL = 0xFFFFFFFF            # bits
 ENDS: Record = (GP1, 1, (0,))
-SETTINGS = 7                # the upper three bits of E0h to FFh
+CUT, INTERLACED = (0x28, 0x48, 0xA0), 0x08000024     # opcodes that are cut; the mode of 480 lines
+SETTINGS, IRQ = 7, 0x1F     # the upper three bits of E0h to FFh; the opcode that sets status bit 24
 STORES = frozenset(['width 0', 'height 0', 'an odd number of cells', 'size bits above its fields'])
 SIZES = (0x00000001, 0x00010000, 0x02010001, 0x00010401)      # of stores: 0, and with bits above the fields
 
@@ -61,6 +63,12 @@ def packet_facts(words: Sequence[int]) -> Tuple[str, int]:
     return ('a store', data_words(words[2])) if name == STORE else (name, 0)
 
 
+def unused_facts(words: Sequence[int]) -> Set[str]:
+    """Returns whether the opcode of a transfer has bits that mean nothing: players may not know it."""
+    name = name_and_length(words[0])[0]
+    return {name + UNUSED} if name in (COPY, LOAD, STORE) and words[0] >> 24 & 0x1F else set()
+
+
 def facts_of(records: Sequence[Record]) -> FrozenSet[str]:
     """Returns what a sequence has: control words, packets, and what is unfinished."""
     out: Set[str] = set()
@@ -74,12 +82,17 @@ def facts_of(records: Sequence[Record]) -> FrozenSet[str]:
             left -= count
         elif kind == GP0:
             text, left = packet_facts(words)
-            out.add(text)
+            out |= {text} | unused_facts(words)
             out |= transfer_facts(STORE, words) & STORES if text == 'a store' else set()
     if is_open or left > 0 and records[-1][0] == STAT:
         out = out - {'a store', 'an odd number of cells'} | {'an open store'}
+    if 'an unfinished load' in out:
+        out.add(LOAD)
     if records[-1][0] == STAT:
         out -= {'an odd number of cells'}       # which matters in what is read
+    elif 'an open store' not in out and not any(kind == GP1 and words[0] >> 24 & 0x3F > 15
+                                                for kind, _, words in records):
+        out -= {'E%Xh' % number for number in range(1, 7)}      # settings that no question asks for
     return frozenset(out or {'nothing before it'})
 
 
@@ -103,6 +116,11 @@ def texts_of(records: Sequence[Record]) -> List[str]:
             for kind, _, part in records]
 
 
+def data_of(sequences: Iterable[Sequence[Record]]) -> bytes:
+    """Returns sequences as a capture."""
+    return HEADS[1] + b''.join(encode(*record) for one in sequences for record in one) + bytes(4)
+
+
 class BitsDiffer(WordsDiffer):
     """A word that is read, or a status, differs in one of these bits."""
 
@@ -112,6 +130,20 @@ class BitsDiffer(WordsDiffer):
 
     def differs(self, ours: int, theirs: int) -> bool:
         return bool((ours ^ theirs) & self.wanted)
+
+
+def differing(records: Sequence[Record], ours: Sequence[int],
+              theirs: Sequence[int]) -> Iterator[Tuple[List[Record], int]]:
+    """Yields the start of a sequence up to each read that differs, and the bits in which its word does. Of the words of
+    one record, the first that differs."""
+    at = 0
+    for k, (kind, count, words) in enumerate(records):
+        if kind in (READ, STAT):
+            bits = [ours[at + n] ^ theirs[at + n] for n in range(count)]
+            first = next((n for n in range(count) if bits[n]), None)
+            if first is not None:
+                yield [*records[:k], (kind, first + 1, words)], bits[first]
+            at += count
 
 
 class Reading:
@@ -137,18 +169,20 @@ class Reading:
             opcode = r.choice((*range(9), *range(9), 0x10, 0x10, 0x10, r.randrange(0x10, 0x40), r.randrange(64, 256)))
             yield GP1, 1, (opcode << 24 | r.choice((r.randrange(16), r.getrandbits(24))),)
         elif way == 2:
-            yield GP0, 1, (r.randrange(0xE1, 0xE7) << 24 | r.getrandbits(24),)
+            yield GP0, 1, (r.choice((IRQ, *range(0xE1, 0xE7))) << 24 | r.getrandbits(24),)
         elif way == 3:
             packet = self.hunt.maker.fresh()[-1]
             cut = r.choice((len(packet), r.randrange(1, len(packet) + 1)))
             yield GP0, cut, tuple(packet[:cut])
         elif way == 4:
             size = r.choice((1, 1, 2, 3, 5)) | r.choice((1, 1, 2, 3)) << 16
-            size = size if r.random() < 0.9 else r.choice(SIZES)
+            if r.random() < 0.1:        # cells that are not 0 tell what is stored
+                size = r.choice(SIZES)
+                yield GP0, 3, (0x02000000 | r.getrandbits(24), 0, 0x01FF03FF)
             yield GP0, 3, (0xC0000000, r.randrange(600) | r.randrange(400) << 16, size)
             yield READ, r.choice((data_words(size), r.randrange(1, data_words(size) + 2))), ()
         else:
-            yield from r.choice((self.setting, self.drawn, self.read))()
+            yield from r.choice((self.setting, self.drawn, self.cut, self.read))()
 
     def read(self) -> Iterator[Record]:
         """Yields reads of nothing."""
@@ -164,10 +198,23 @@ class Reading:
     def drawn(self) -> Iterator[Record]:
         """Yields a fill or a rectangle, and reads of its cells: in interlaced modes, and without an area."""
         r = self.hunt.random
+        if r.random() < 0.3:
+            yield GP1, 1, (INTERLACED,)
         x, y, size = r.randrange(0, 64, 16), r.randrange(64), 16 | r.choice((1, 2, 3)) << 16
         yield GP0, 3, (r.choice((0x02, 0x60)) << 24 | r.getrandbits(24), x | y << 16, size)
         yield GP0, 3, (0xC0000000, x | y << 16, size)
         yield READ, data_words(size), ()
+
+    def cut(self) -> Iterator[Record]:
+        """Yields a packet that GP1(01h) ends, and reads of the cells that it may draw."""
+        r = self.hunt.random
+        words = (r.choice(CUT) << 24 | r.getrandbits(24), 0, 0x00040004, 0x00080000, 0x00080008)
+        count = r.randrange(3, 5)
+        yield GP0, 1, (0xE4000000 | 15 | 15 << 10,)
+        yield GP0, count, words[:count]
+        yield GP1, 1, (0x01000000,)
+        yield GP0, 3, (0xC0000000, 0, 0x00080008)
+        yield READ, 32, ()
 
     def step(self) -> None:
         """One batch of sequences."""
@@ -177,39 +224,68 @@ class Reading:
     def judge(self, found: List[List[Record]]) -> None:
         """Compares sequences in one run of each player. If a player breaks down, in two halves."""
         hunt, half = self.hunt, len(found) // 2
-        data = HEADS[1] + b''.join(encode(*record) for one in found for record in one) + bytes(4)
-        ours = words_of(hunt.bench.ours, data, hunt.bench.seconds)
         try:
-            theirs = words_of(hunt.bench.theirs, data, hunt.bench.seconds)
-            if len(theirs) != len(ours):
-                raise ToolError('%s: %d words of %d' % (hunt.bench.theirs.text, len(theirs), len(ours)))
+            ours, theirs = self.words(data_of(found))
         except ToolError as how:
             for part in (found[:half], found[half:]) if half else ():
                 self.judge(part)
             if not half:
-                self.keep_lost(found[0], data, str(how))
+                self.keep_lost(found[0], str(how))
             return
         at = reduced = 0
         for records in found:
-            kinds = [kind for kind, count, _ in records for _ in range(count) if kind in (READ, STAT)]
-            pairs = list(zip(kinds, ours[at:at + len(kinds)], theirs[at:at + len(kinds)]))
-            at += len(kinds)
-            first = next(((kind, a ^ b) for kind, a, b in pairs if a != b), None)
-            hunt.counts['differ'] += first is not None
-            if first and reduced < MOST_REDUCED:
-                reduced += self.look_into(records, *first)
+            count = sum(size for kind, size, _ in records if kind in (READ, STAT))
+            differ = list(differing(records, ours[at:at + count], theirs[at:at + count]))
+            at += count
+            hunt.counts['differ'] += bool(differ)
+            for start, bits in differ:
+                if reduced < MOST_REDUCED:
+                    reduced += self.look_into(start, bits)
 
-    def keep_lost(self, records: List[Record], data: bytes, how: str) -> None:
-        """Keeps a sequence for which their player gives no words, unless a kind explains it."""
+    def words(self, data: bytes) -> Tuple[Sequence[int], Sequence[int]]:
+        """Returns the words of both players. Raises ToolError if theirs gives fewer or more."""
+        bench = self.hunt.bench
+        ours, theirs = words_of(bench.ours, data, bench.seconds), words_of(bench.theirs, data, bench.seconds)
+        if len(theirs) != len(ours):
+            raise ToolError('%s: %d words of %d' % (bench.theirs.text, len(theirs), len(ours)))
+        return ours, theirs
+
+    def lost(self, records: List[Record]) -> str:
+        """Returns how their player breaks down at a sequence; nothing if it does not."""
+        try:
+            self.words(data_of([records]))
+        except ToolError as how:
+            return str(how)
+        return ''
+
+    def smaller(self, records: List[Record], how: str) -> Tuple[List[Record], str]:
+        """Returns a sequence without records and words that a break down does not need, and how it then ends."""
+        for at in reversed(range(len(records))):
+            kind, _, words = records[at]
+            forms: List[List[Record]] = [[]]
+            forms += [[(kind, k, words[:k])] for k in (1, 2, 4, 8, 16) if k < len(words)]
+            for form in forms:
+                rest = [*records[:at], *form, *records[at + 1:]]
+                lost = self.lost(rest) if rest else ''
+                if lost:
+                    records, how = rest, lost
+                    break
+        return records, how
+
+    def keep_lost(self, records: List[Record], how: str) -> None:
+        """Keeps a sequence for which their player gives no words, unless a kind explains it. Records and words that
+        this does not need are left out."""
+        records, how = self.smaller(records, how)
         hunt, facts = self.hunt, facts_of(records)
         known = next((key for key, kind in hunt.store.kinds.items()
                       if kind.name == READS and kind.look == LOST and kind.rule <= facts), None)
         words = sum(len(part) for _, _, part in records)
-        kind = Kind(READS, READS, LOST, sorted(facts), sorted(facts), words, texts_of(records), [how],
+        names = {name_and_length(part[0])[0] for kind, _, part in records if kind == GP0}
+        kind = Kind(READS, READS, LOST, sorted(facts), sorted(facts | names), words, texts_of(records), [how],
                     found=dict(seconds=hunt.time, captures=hunt.counts['captures']))
         key = known or '%s-%d-%d' % (READS, hunt.seed, len(hunt.store.kinds) + 1)
         if not known:
-            hunt.store.put(key, kind, [Content(hunt.store.path('kinds/%s.capture' % key), data)])
+            hunt.store.put(key, kind, [Content(hunt.store.path('kinds/%s.capture' % key), data_of([records]))])
         hunt.seen[key] += 1
 
     def unknown(self, new: New) -> int:
@@ -222,8 +298,9 @@ class Reading:
         self.hunt.seen.update([*found][:1] if not rest else ())
         return rest
 
-    def look_into(self, records: List[Record], kind: int, bits: int) -> bool:
-        """Counts a sequence that differs, or reduces it. Returns whether it was reduced."""
+    def look_into(self, records: List[Record], bits: int) -> bool:
+        """Counts a sequence whose last word differs, or reduces it. Returns whether it was reduced."""
+        kind = records[-1][0]
         new = New(STATUS if kind == STAT else READS, bits if kind == STAT else ALL, facts_of(records))
         new = new._replace(bits=self.unknown(new))
         self.tried[new] += 1
@@ -237,7 +314,7 @@ class Reading:
         hunt, begin = self.hunt, self.hunt.time
         hunt.counts['reductions'] += 1
         fault = BitsDiffer(new.bits)
-        found = self.reduced(self.plainer(records, fault), fault)
+        found = self.reduced(self.plainer(records, fault), fault) if self.is_shown(records, fault) else None
         if found is None:
             hunt.counts['not shown alone'] += 1
             return
@@ -259,14 +336,17 @@ class Reading:
         hunt.store.put(key, kind, list(files_of(found, path, ['theirs: ' + hunt.bench.theirs.text])))
         hunt.seen[key] += 1
 
+    def is_shown(self, records: List[Record], fault: BitsDiffer) -> bool:
+        """Returns whether a sequence alone differs."""
+        bench = self.hunt.bench
+        return fault.shows(bench.ours, bench.theirs, data_of([records]), bench.seconds)
+
     def plainer(self, records: List[Record], fault: BitsDiffer) -> List[Record]:
         """Returns a sequence that differs, too, whose control words have as few bits as they can."""
-        bench = self.hunt.bench
         for at, (kind, _, words) in enumerate(records):
             for mask in (0xFF000000, 0xFF00000F) if kind == GP1 else ():
                 changed = [*records[:at], (kind, 1, (words[0] & mask,)), *records[at + 1:]]
-                data = HEADS[1] + b''.join(encode(*record) for record in changed) + bytes(4)
-                if fault.shows(bench.ours, bench.theirs, data, bench.seconds):
+                if self.is_shown(changed, fault):
                     records = changed
                     break
         return records
@@ -275,7 +355,7 @@ class Reading:
         """Returns the smallest capture of a sequence, or None if it does not differ alone."""
         bench = self.hunt.bench
         with tempfile.NamedTemporaryFile(prefix='psxgpu') as file:
-            file.write(HEADS[1] + b''.join(encode(*record) for record in records) + bytes(4))
+            file.write(data_of([records]))
             file.flush()
             try:
                 with Job(bench.ours, bench.theirs, Wanted(fault, []), bench.seconds, 1) as job:

@@ -1,6 +1,7 @@
 """Reduces an experiment that differs to the smallest capture that still has what its kind needs."""
 from __future__ import annotations
 
+from functools import partial
 from os import times
 from typing import Any, Callable, Dict, FrozenSet, Iterable, List, Optional, Sequence, Tuple
 
@@ -35,7 +36,8 @@ ALIKE: Dict[str, Sequence[str]] = {
     STEP: (STEP, NOTHING, ALONE, EDGES, OTHERS), COLOURS: (COLOURS, STEP, NOTHING, ALONE, EDGES, OTHERS)}
 READING = {'texture', 'tested-mask', 'semi-transparency'}
 Facts = FrozenSet[str]
-Found = Tuple[Kind, List[Content], Experiment]
+Files = Callable[[], List[Content]]     # made only for a kind that is kept
+Found = Tuple[Kind, Files, Experiment]
 
 
 def processor_time() -> float:
@@ -58,13 +60,14 @@ class KindProber(BatchProber):
         return any(look in self.looks for look in looks)
 
     def has(self, units: Units) -> bool:
-        """Returns whether units have what the kind needs."""
+        """Returns whether units have what the kind needs. Registers that they do not set are those of a reset."""
         packets = [unit.words for unit in units if unit.is_packet and unit.name != LOAD or unit is units[-1]]
         if not packets or name_of(packets[-1]) != self.name:
             return False
-        if any(all(FEATURES[feature](packet) == packet for packet in packets) for feature in self.features):
+        one = packed([*((opcode << 24,) for opcode in SETTINGS), *packets])
+        if any(all(FEATURES[feature](packet) == packet for packet in one) for feature in self.features):
             return False
-        return self.features == self.needs or self.needs <= facts_of(packed(packets))
+        return self.features == self.needs or self.needs <= facts_of(one)
 
     name = ''
 
@@ -129,6 +132,12 @@ def shown(reducer: Reducer) -> Optional[Reduced]:
         return None
 
 
+def files_of_kind(found: Reduced, kind: Kind, notes: List[str]) -> List[Content]:
+    """Returns the files of a kind's smallest capture."""
+    page = page_of_reduced(found._replace(headline=kind.sentence), kind.label, notes)
+    return [*files_of(found, kind.label, notes), *page]
+
+
 def reduce_kind(bench: Bench, experiment: Experiment, look: str, needs: Facts) -> Optional[Found]:
     """Returns the kind of an experiment, and the files and packets of its smallest capture; None if it is not shown
     alone. It may look otherwise on cells of 0. If it then looks otherwise on the ground, it was another difference. So
@@ -147,7 +156,7 @@ def reduce_kind(bench: Bench, experiment: Experiment, look: str, needs: Facts) -
             prober.fault = Pair(DumpsDiffer(), ())
         try:
             reducer = Reducer(prober, False)
-            if not started(reducer, bench, experiment, is_strict):
+            if not started(reducer, bench, experiment, is_strict) or not prober.has(reducer.units):
                 continue
             cut_data(reducer)
             begun = reducer.units
@@ -163,9 +172,7 @@ def reduce_kind(bench: Bench, experiment: Experiment, look: str, needs: Facts) -
         small = tuple(unit.words for unit in reducer.units)
         kind = kind_of(small, look, needs)
         kind.lines = report_lines(found)[1:]
-        notes = ['theirs: ' + bench.theirs.text]
-        page = page_of_reduced(found._replace(headline=kind.sentence), kind.label, notes)
-        best = kind, [*files_of(found, kind.label, notes), *page], small
+        best = kind, partial(files_of_kind, found, kind, ['theirs: ' + bench.theirs.text]), small
         if is_strict or chosen != needs or bench.judge([packed(small)])[0].looks & similar(look):
             return best
     return best

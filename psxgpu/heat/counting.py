@@ -152,7 +152,7 @@ class Counter:
         self.frame, self.done = Frame(), []             # type: Frame, List[Tuple[Frame, Optional[Segment]]]
         self.area: Optional[Area] = None
         self.number = 0                 # of packets that were drawn
-        self.settings = dict.fromkeys(AREA_WORDS, 0)
+        self.settings = {opcode: walk.registers[opcode] for opcode in AREA_WORDS}
         self.words = self.beginning()
         self.has_rest = False           # a packet of any kind since the last end of a frame
 

@@ -1,5 +1,5 @@
 """Classes of packets that players are known to draw differently, and how they are left out of a comparison."""
-from typing import Callable, Dict, Iterable, List, NamedTuple, Sequence
+from typing import Callable, Dict, FrozenSet, Iterable, List, NamedTuple, Sequence
 
 from psxgpu.packets.parts import (Point, Registers, line_parts, polygon_parts, rectangle_parts, signed, texcoord_of,
                                   vertex_of)
@@ -86,3 +86,9 @@ def is_known(classes: Iterable[str], name: str, words: Sequence[int], registers:
     """Returns whether a packet is of one of these classes: of CLASSES, or a name of NAMES."""
     packet = Packet(name, words, registers)
     return any(name == one or one in CLASSES and CLASSES[one](packet) for one in classes)
+
+
+def classes_of(name: str, words: Sequence[int], registers: Registers) -> FrozenSet[str]:
+    """Returns the classes of CLASSES that a packet is of."""
+    packet = Packet(name, words, registers)
+    return frozenset(one for one, is_in in CLASSES.items() if is_in(packet)) if name in NAMES else frozenset()

@@ -6,6 +6,7 @@ from typing import TYPE_CHECKING, Dict, Iterator, List, Tuple
 from psxgpu import progress
 from psxgpu.command import ToolError
 from psxgpu.errors import counted
+from psxgpu.jobs import in_order
 from psxgpu.players.named import Player, ending
 from psxgpu.players.probes import DRAWN, END, HEAD, Events, Target, probed, size, targets, whole
 
@@ -124,8 +125,10 @@ class Row:
                 mine[k], theirs[k])
 
 
-def audit(data: bytes, ours: Player, theirs: Player, first: int, last: int, name: str = 'capture') -> Dict[str, Row]:
-    """Returns a row for each class of packets from event `first` to event `last`. Raises ToolError if there is none."""
+def audit(data: bytes, ours: Player, theirs: Player, first: int, last: int, name: str = 'capture',
+          jobs: int = 1) -> Dict[str, Row]:
+    """Returns a row for each class of packets from event `first` to event `last`. Raises ToolError if there is none. At
+    most `jobs` groups of packets are played side by side."""
     stream = Events(data, name)
     listing = output(ours, 'list', HEAD + stream.stream.tobytes() + END)
     try:
@@ -134,10 +137,14 @@ def audit(data: bytes, ours: Player, theirs: Player, first: int, last: int, name
         raise ToolError('%s list: not a list of packets: %s' % (ours.text, bad)) from bad
     rows: Dict[str, Row] = collections.defaultdict(Row)
     groups = list(passes(found, first, last))
-    for group in progress.counted(groups, name, is_quiet=True):
+
+    def words_of(group: List[int]) -> Tuple[Dict[int, Words], Dict[int, Words]]:
         before = beginning(stream, found, group, ours)
         mine = read_back(ours, *probed(stream, found, group, before))
-        other = read_back(theirs, *probed(stream, found, group, before, mine))
+        return mine, read_back(theirs, *probed(stream, found, group, before, mine))
+
+    found_words = in_order(jobs, words_of, groups)
+    for group, (mine, other) in zip(progress.counted(groups, name, is_quiet=True), found_words):
         for event in group:
             target = found[event]
             rows[class_of(target.name, target.word)].take(target, event, mine[event], other[event])

@@ -8,7 +8,7 @@ from __future__ import annotations
 import array
 from functools import lru_cache
 from itertools import takewhile
-from typing import Dict, FrozenSet, List, NamedTuple, Optional, Sequence, Tuple
+from typing import Dict, FrozenSet, Iterator, List, NamedTuple, Optional, Sequence, Tuple
 
 from psxgpu.command import ToolError
 from psxgpu.packets.grammar import LINE, LOAD, name_and_length
@@ -33,6 +33,7 @@ DROP = (GP1 << 24 | 1, 0x01000000)          # ends what is unfinished
 IDLE = (0,) * 12                # ends packets of a player that keeps them unfinished
 REGISTERS = range(0xE1, 0xE7)
 CLEAR = 0x01000000              # empties the caches of players that have some
+TENTH, LOWEST, LAST = 1 << 19, 511 << 10, 0x7FFFF   # of E4h: the tenth bit of the last row, the last row, all cells
 Words = Tuple[int, ...]
 Experiment = Tuple[Words, ...]
 Boxes = Tuple[List[Box], List[Box]]
@@ -78,15 +79,30 @@ def merged(boxes: Sequence[Box]) -> List[Box]:
 
 
 def wrapped_targets(name: str, words: Sequence[int], registers: Dict[int, int]) -> List[Box]:
-    """Returns the boxes of a packet whose sums of vertex and offset wrap at eleven bits, if they have more: some
-    players draw there."""
-    if name not in DRAWN or len(words) > SEGMENT and name == LINE or not is_far(Packet(name, words, registers)):
+    """Returns the boxes of a packet in which some players draw it: its sums of vertex and offset wrap at eleven bits,
+    if they have more; at the size of video memory, if it is drawn nowhere in it."""
+    if name not in DRAWN or len(words) > SEGMENT and name == LINE:
         return []
+    bits = 11, 11
+    if not is_far(Packet(name, words, registers)):
+        if target_of(name, words, {**registers, 0xE3: 0, 0xE4: LAST}):
+            return []
+        bits, registers = (10, 9), {**registers, 0xE3: 0, 0xE4: LAST}
     unit, (ox, oy) = Unit(name, tuple(words)), offset_of(registers)
     moved = list(words)
     for k in places_of(unit, 'vertex'):
-        moved[k] = corner(signed(words[k]) + ox & 0x7FF, signed(words[k] >> 16) + oy & 0x7FF)
+        moved[k] = corner(*((signed(words[k] >> shift) + by) % (1 << size)
+                            for shift, by, size in zip((0, 16), (ox, oy), bits)))
     return target_of(name, moved, {**registers, 0xE5: 0})
+
+
+def targets(name: str, words: Sequence[int], registers: Dict[int, int], lower: Sequence[int]) -> Iterator[Box]:
+    """Yields the boxes of a packet: as here, with sums that wrap, and in areas whose last row has ten bits, as some
+    players have them. `lower`: E4h of such areas."""
+    yield from target_of(name, words, registers)
+    yield from wrapped_targets(name, words, registers)
+    for word in lower:
+        yield from target_of(name, words, {**registers, 0xE4: word & 0x7FFFF})
 
 
 @lru_cache(4096)
@@ -95,13 +111,13 @@ def boxes_of(experiment: Experiment) -> Boxes:
     are not looked at."""
     splitter, seen, loaded = Splitter(), [], []     # type: Splitter, List[Box], List[Box]
     settings = list(takewhile(lambda packet: packet[0] >> 24 in REGISTERS, experiment))
+    lower = [packet[0] | LOWEST for packet in settings if packet[0] >> 24 == 0xE4 and packet[0] & TENTH]
     for _ in splitter.push([word for packet in settings for word in packet]):
         pass
     for k, packet in enumerate(experiment[len(settings):], len(settings)):
         is_load = name_and_length(packet[0])[0] == LOAD
         for name, words, _ in splitter.push(packet[:3] if is_load else packet):
-            wrapped = wrapped_targets(name, words, splitter.registers)
-            for box in (*target_of(name, words, splitter.registers), *wrapped):
+            for box in targets(name, words, splitter.registers, lower):
                 if box[2] > 0 and box[3] > 0:
                     (loaded if is_load and k < len(experiment) - 1 else seen).append(widened(*box))
         splitter.clear()

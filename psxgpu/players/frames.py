@@ -8,6 +8,7 @@ from typing import Iterator, List, Optional, Tuple
 
 from psxgpu.corpus.scan import FLIP, MARK, copy_first
 from psxgpu.errors import ToolError, counted
+from psxgpu.jobs import in_order
 from psxgpu.players import player
 from psxgpu.players.numbering import Ends
 
@@ -129,11 +130,12 @@ def after_frames(finding: Finding, sides: Tuple[Frames, Frames]) -> None:
         finding.lines += frame_lines('the picture at the end differs', finding.pair)
 
 
-def first_difference(names: Tuple[str, str], paths: Tuple[str, str], program: str, marks: bool = False) -> Finding:
+def first_difference(names: Tuple[str, str], paths: Tuple[str, str], program: str, marks: bool = False,
+                     jobs: int = 2) -> Finding:
     """Returns the first difference of two recordings. `paths` are files of the disk; frames end at new display starts,
-    or at `marks`."""
+    or at `marks`. With more than one of `jobs`, the frames of both are counted at the same time."""
     words = ['sums', 'marks'] if marks else ['sums']
-    ends = [Ends(program, path, MARK if marks else FLIP) for path in paths]
+    ends = list(in_order(min(jobs, 2), lambda path: Ends(program, path, MARK if marks else FLIP), paths))
     finding = Finding()
     with player.playing(program, words, paths[0]) as one, player.playing(program, words, paths[1]) as other:
         sides = Frames(one, ends[0]), Frames(other, ends[1])

@@ -1,15 +1,16 @@
 """A flat capture packet by packet, with the areas that `list` has for them."""
 from __future__ import annotations
 
+import contextlib
 import itertools
 from array import array
 from typing import IO, Dict, Iterator, List, NamedTuple, Optional, Sequence, Tuple, Union
 
-from psxgpu.command import ToolError
+from psxgpu.command import Readable, ToolError
 from psxgpu.packets.runs import Run, pieces
 from psxgpu.packets.split import Splitter
 from psxgpu.players import player
-from psxgpu.stream import GP0, GP1, Stream, count_of
+from psxgpu.stream import GP0, GP1, HEADS, Stream, count_of
 
 Area = Tuple[int, int, int, int]        # both corners inside
 # What `Splitter.push` gives (the name, the words, and how many words of the record were taken), and the area or None. A
@@ -64,13 +65,17 @@ Piece = Union[Listed, Packet]
 
 
 class Walk:
-    """The records of a flat capture. `registers` are those after the packet that was taken last."""
+    """The records of a flat capture. `registers` are those after the packet that was taken last. `head`: the first
+    bytes of the file that the player plays. `before` and `frames`: how many events and frames there are before the
+    records."""
 
     def __init__(self, path: str, name: str, program: str) -> None:
         self.path, self.name, self.program = path, name, program
         with open(path, 'rb') as file:
-            self.is_tall: bool = Stream(file, name).version == 3
+            self.version = Stream(file, name).version
+        self.is_tall: bool = self.version == 3
         self.splitter = Splitter(self.is_tall)
+        self.head, self.before, self.frames = HEADS[self.version], 0, 0
 
     @property
     def registers(self) -> Dict[int, int]:
@@ -89,10 +94,16 @@ class Walk:
                 return
             yield piece, area_of(line)
 
+    @contextlib.contextmanager
+    def sources(self) -> Iterator[Tuple[Readable, Union[str, IO[bytes]]]]:
+        """The bytes of the capture, and what the player plays: its path, or a file."""
+        with open(self.path, 'rb') as file:
+            yield file, self.path
+
     def records(self) -> Iterator[Record]:
         """Yields the records. All packets of one have to be taken before the next."""
-        before = 0
-        with open(self.path, 'rb') as file, player.playing(self.program, ['list'], self.path) as listed:
+        before = self.before
+        with self.sources() as (file, played), player.playing(self.program, ['list'], played) as listed:
             for kind, count, words in Stream(file, self.name):
                 if kind == GP1:
                     self.splitter.control(words[0])

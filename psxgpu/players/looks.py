@@ -18,6 +18,14 @@ def similar(look: str) -> FrozenSet[str]:
     return next((group for group in SIMILAR if look in group), frozenset([look]))
 
 
+def may_be_one(one: str, other: str) -> bool:
+    """Returns whether one fault may look in both ways: as shapes, or as values and parts of a shape, since a texel may
+    be transparent. Bit 15 may be all that a player draws."""
+    looks = {one, other}
+    return (other in similar(one) or looks <= {*SHAPES} or looks <= {*VALUES, EDGES, OTHERS}
+            or BIT_15 in looks and not looks.isdisjoint((NOTHING, ALONE)))
+
+
 def shape_of(before: array.array[int], ours: array.array[int], theirs: array.array[int], cells: Sequence[int],
              width: int) -> str:
     """Returns how `cells` differ, which one player alone has changed. Those at edges are at most half of a box's."""

@@ -12,13 +12,17 @@ If the command is this project's own program and the library is there, it runs i
 """
 from __future__ import annotations
 
+import contextlib
+import io
 import os
 import re
+import select
 import shlex
 import shutil
 import signal
 import subprocess
-from typing import List, NamedTuple, Optional
+import time
+from typing import IO, List, NamedTuple, Optional, Tuple
 
 from psxgpu.command import ToolError
 from psxgpu.errors import counted
@@ -26,12 +30,13 @@ from psxgpu.vram import WIDTH
 from psxgpu.machine import MODES, play
 from psxgpu.machine.library import Missing, OutOfMemory, Refused, library
 from psxgpu.players import by_library, player as program
-from psxgpu.stopping import kill, session
+from psxgpu.stopping import end, scratch, session
 
 OWN = 'psxgpu_tool'
 WORD = re.compile(r'(?<!\S)vram(?!\S)')
 SHELL = set('|&;<>()$`*?[]#~{}!\n')       # a command with one of these needs a shell
 SAID = 60                                   # characters of an error that a message repeats
+MOST_READ, FEW, PAUSE = 1 << 20, 4096, 0.001    # bytes that are read at once, those after which more is waited for; s
 PREFIX = 'psxgpu: '                         # of each error of our own program
 
 
@@ -72,6 +77,25 @@ def arguments_of(command: str) -> List[str]:
     return ['sh', '-c', command]
 
 
+def output_of(child: "subprocess.Popen[bytes]", seconds: Optional[float]) -> Optional[bytes]:
+    """Returns what a process writes until it ends; None if that takes longer than `seconds`, if they are given. After a
+    few bytes, waits for more before it reads on: a player may write word by word."""
+    last = None if seconds is None else time.monotonic() + seconds
+    out, waiting = [], select.poll()        # type: List[bytes], select.poll
+    with child.stdout or io.BytesIO() as pipe:
+        waiting.register(pipe, select.POLLIN)
+        while waiting.poll(None if last is None else max(0, 1000 * (last - time.monotonic()))):
+            out.append(os.read(pipe.fileno(), MOST_READ))
+            if not out[-1]:
+                with contextlib.suppress(subprocess.TimeoutExpired):
+                    child.wait(None if last is None else max(0, last - time.monotonic()))
+                    return b''.join(out)
+                break
+            if len(out[-1]) < FEW:
+                time.sleep(PAUSE)
+    return None
+
+
 class CommandPlayer(Player):
     """A player that is a process of its own in each run."""
 
@@ -91,17 +115,25 @@ class CommandPlayer(Player):
 
     def run(self, mode: str, data: bytes, seconds: Optional[float] = None) -> Done:
         words = self.arguments(mode)
+        with scratch() as file, scratch() as err:       # two files, so that one pipe alone is read
+            file.write(data)
+            file.seek(0)
+            status, out = self.played(words, file, err, self.seconds if seconds is None else seconds)
+            err.seek(0)
+            return Done(None, b'', b'') if out is None else Done(status, out, err.read())
+
+    @staticmethod
+    def played(words: List[str], file: IO[bytes], err: IO[bytes],
+               seconds: Optional[float]) -> Tuple[int, Optional[bytes]]:
+        """Runs a process on a file. Returns its status and what it wrote, None if its time ran out."""
         try:
-            with session(words, stdin=subprocess.PIPE, stdout=subprocess.PIPE, stderr=subprocess.PIPE) as child:
-                try:
-                    out, err = child.communicate(data, self.seconds if seconds is None else seconds)
-                except subprocess.TimeoutExpired:
-                    kill(child)
-                    child.communicate()
-                    return Done(None, b'', b'')
+            with session(words, stdin=file, stdout=subprocess.PIPE, stderr=err) as child:
+                out = output_of(child, seconds)
+                if out is None:
+                    end(child)
         except OSError as error:
             raise ToolError('%s: %s' % (words[0], error.strerror)) from error
-        return Done(child.returncode, out, err)
+        return child.returncode, out
 
 
 class LibraryPlayer(Player):

@@ -3,7 +3,7 @@ the program, as pictures."""
 from __future__ import annotations
 
 import tempfile
-from typing import IO, Iterator, List, Sequence, Tuple
+from typing import IO, Iterator, List, Optional, Sequence, Tuple
 
 from psxgpu import progress
 from psxgpu.command import BLOCK, ToolError
@@ -21,13 +21,14 @@ BYTES, CYCLES = 0x13, 4                 # the display mode of 640 pixels of 24 b
 
 
 class Questions:
-    """A capture, and boxes that are asked for on the way. A Stat record, which has no effect, is a question."""
+    """A capture, and boxes that are asked for on the way. A Stat record, which has no effect, is a question. `state`:
+    the bytes of the state of a snapshot with which it begins."""
 
-    def __init__(self, is_tall: bool) -> None:
+    def __init__(self, is_tall: bool, state: Optional[bytes] = None) -> None:
         self.file = tempfile.TemporaryFile(prefix='psxgpu')
         self.boxes: List[Box] = []
-        self.is_tall, self.head = is_tall, HEADS[3 if is_tall else 1]
-        self.file.write(self.head)
+        self.is_tall, self.state = is_tall, state
+        self.file.write(HEADS[3 if is_tall else 1])
 
     def record(self, kind: int, count: int, words: Sequence[int]) -> None:
         """Adds a record of the recording itself."""
@@ -69,6 +70,8 @@ class Questions:
         memory, is_new, boxes = memoryview(bytearray(Machine.VRAM_ROOM)), True, enumerate(self.boxes)
         self.file.flush()
         with Machine(self.is_tall) as machine, progress.following(self.file, 'libpsxgpu'):
+            if self.state:
+                machine.load(self.state + END)
             size = machine.vram(into=memory)
             for record in self.records():
                 if record.kind != STAT:
@@ -85,7 +88,7 @@ class Questions:
         """Lets the program play the capture, with a picture in the place of each question."""
         boxes = iter(self.boxes)
         with tempfile.TemporaryFile(prefix='psxgpu') as file:
-            file.write(self.head)
+            file.write(self.state or HEADS[3 if self.is_tall else 1])
             for record in self.records():
                 if record.kind == STAT:
                     file.write(display(next(boxes)))

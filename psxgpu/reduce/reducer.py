@@ -3,7 +3,7 @@ from __future__ import annotations
 
 from typing import Callable, Iterable, List, Optional, Set, Tuple
 
-from psxgpu.packets.known import CLASSES, is_known
+from psxgpu.packets.known import CLASSES, classes_of
 from psxgpu.packets.grammar import ENVIRONMENT, LOAD
 from psxgpu.packets.split import Splitter
 from psxgpu.players.named import dump_of
@@ -27,7 +27,7 @@ def known_classes(units: Iterable[Unit], is_tall: bool) -> Set[str]:
             splitter.control(unit.words[0])
         for name, packet, _ in splitter.push(unit.words) if unit.is_packet else ():
             found.add(name)
-            found.update(one for one in CLASSES if is_known([one], name, packet, splitter.registers))
+            found |= classes_of(name, packet, splitter.registers)
     return found
 
 

@@ -28,8 +28,7 @@ class Used(NamedTuple):
 
 
 class Ages:
-    """When something was last written to each tile of video memory: the number of a packet. Writes to tiles in which no
-    texture is known may be left out."""
+    """When something was last written to each tile of video memory: the number of a packet, or 0."""
 
     def __init__(self, rows: int) -> None:
         self.columns, self.rows = COLUMNS // TILE_W, rows // TILE_H
@@ -83,10 +82,11 @@ class Collector:
     """The questions of a capture."""
 
     def __init__(self, walk: Walk) -> None:
-        self.walk, self.questions = walk, Questions(walk.is_tall)
+        self.walk, self.questions = walk, Questions(walk.is_tall, walk.head if walk.before else None)
         self.ages = Ages(1024 if walk.is_tall else 512)
         self.places: Dict[Key, Optional[Place]] = {}
         self.latest: Dict[Source, Asked] = {}
+        self.first: Dict[Source, int] = {}  # the age of a source when it was first used
         self.asked: List[Asked] = []
         self.packets = 0
         self.tracked: Set[int] = set()      # the tiles of all places
@@ -111,6 +111,8 @@ class Collector:
         """Counts packets that draw with a source. Returns whether it was asked for again, since it may be new."""
         last = self.latest.get(place.source)
         is_new = last is None or last.age < self.ages.of(place.tiles)
+        if last is None:
+            self.first[place.source] = self.ages.of(place.tiles)
         if last is None or is_new:
             last = Asked(place.source, event, self.packets - 1, len(self.questions.boxes) + len(place.boxes) - 1)
             self.latest[place.source] = last
@@ -156,9 +158,16 @@ class Collector:
         return {key: (first[key], uses) for key, uses in collections.Counter(keys).items()}
 
     def is_apart(self, listed: Listed) -> bool:
-        """Returns whether a run writes no tile of a texture that is known."""
+        """Returns whether a run writes no tile of a texture that is known. If so, notes which tiles it writes. The time
+        does not matter: a texture there is first used later."""
         x1, y1, x2, y2 = listed.corners()
-        return not x1 or self.tracked.isdisjoint(self.ages.area_tiles((min(x1), min(y1), max(x2), max(y2))))
+        tiles = self.ages.area_tiles((min(x1), min(y1), max(x2), max(y2))) if x1 else []
+        if not self.tracked.isdisjoint(tiles):
+            return False
+        if not all(map(self.ages.ages.__getitem__, tiles)):
+            for area in zip(x1, y1, x2, y2):
+                self.ages.write(area, self.packets + 1)
+        return True
 
     def run(self, words: Sequence[int], before: int, listed: Listed) -> None:
         """Adds a run. If it writes no texture, packets that are alike are added at once."""

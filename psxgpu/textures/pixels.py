@@ -61,16 +61,29 @@ def pixels_of(used: Used, has_half: bool) -> Tuple[int, int, bytes]:
     return width, h, b''.join(rows)
 
 
+def texture_of(used: Used, has_half: bool) -> Texture:
+    """Returns what was used as a texture."""
+    texture = Texture(used.source, *pixels_of(used, has_half), used.event)
+    texture.uses = used.uses
+    return texture
+
+
+def once_each(textures: Iterable[Texture]) -> List[Texture]:
+    """Returns the first of the textures that are alike, in order, with the uses of all. One that is wholly transparent
+    is left out."""
+    found: Dict[Tuple[int, int, bytes], Texture] = {}
+    for texture in textures:
+        key = texture.width, texture.height, hashlib.sha1(texture.pixels).digest()
+        if key in found:
+            found[key].uses += texture.uses
+        else:
+            found[key] = texture
+    return [texture for texture in found.values() if any(texture.pixels[3::4])]
+
+
 def distinct(all_used: Iterable[Used], has_half: bool) -> List[Texture]:
     """Returns the textures that are not alike and not wholly transparent, in the order of their first use."""
-    found: Dict[Tuple[int, int, bytes], Texture] = {}
-    for used in all_used:
-        width, height, pixels = pixels_of(used, has_half)
-        key = width, height, hashlib.sha1(pixels).digest()
-        if key not in found:
-            found[key] = Texture(used.source, width, height, pixels, used.event)
-        found[key].uses += used.uses
-    return [texture for texture in found.values() if any(texture.pixels[3::4])]
+    return once_each(texture_of(used, has_half) for used in all_used)
 
 
 def is_part(one: Texture, other: Texture) -> bool:

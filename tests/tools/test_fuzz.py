@@ -9,7 +9,7 @@ from psxgpu.capture import Capture
 from psxgpu.errors import ToolError
 from psxgpu.fuzz.asking import Asking
 from psxgpu.fuzz.causes import causes
-from psxgpu.fuzz.conditions import facts_of
+from psxgpu.fuzz.conditions import closed, facts_of
 from psxgpu.fuzz.deciding import of_class, of_random
 from psxgpu.fuzz.hunt import Hunt, ground_of
 from psxgpu.fuzz.kinds import Kind, Store
@@ -23,7 +23,8 @@ from psxgpu.output import Content
 from psxgpu.packets import deciders
 from psxgpu.packets.generated import CLASSES
 from psxgpu.players.bench import LOST, Bench, DumpBench
-from psxgpu.players.looks import BIT_15, COLOURS, EDGES, NOTHING, OTHERS, STEP
+from psxgpu.players.looks import LOST as BROKEN
+from psxgpu.players.looks import ALONE, BIT_15, COLOURS, EDGES, NOTHING, OTHERS, STEP, may_be_one
 from psxgpu.players.named import Done, Player, player_of
 from psxgpu.reduce.features import name_of
 from psxgpu.stream import GP0, GP1, READ, STAT
@@ -44,6 +45,15 @@ class Parts(unittest.TestCase):
         self.assertLessEqual({'x-flip', 'an even U', 'texture', 'U below 0'}, facts_of(FLIPPED))
         self.assertNotIn('y-flip', facts_of(FLIPPED))
         self.assertIn('an earlier packet', facts_of((*FLIPPED, FLIPPED[-1])))
+
+    def test_what_conditions_have(self):
+        self.assertEqual(closed(frozenset(['an even U', 'a tie'])), {'an even U', 'a tie', 'texture'})
+        self.assertEqual(closed(frozenset(['blending B-F'])), {'blending B-F', 'semi-transparency'})
+
+    def test_looks_of_one(self):
+        self.assertTrue(may_be_one(NOTHING, EDGES) and may_be_one(COLOURS, EDGES) and may_be_one(STEP, COLOURS))
+        self.assertTrue(may_be_one(BIT_15, NOTHING))
+        self.assertFalse(may_be_one(NOTHING, COLOURS) or may_be_one(STEP, ALONE))
 
     def test_making(self):
         """Whatever is made has six settings, then packets that draw."""
@@ -95,6 +105,30 @@ class Parts(unittest.TestCase):
         self.assertIn('line, if a tie: cells at its edges', [cause.sentence for cause in found])
         self.assertIn('line, polygon with a drawing offset: cells at its edges', [cause.sentence for cause in found])
 
+    def test_causes_of_one_packet(self):
+        """A texel of another page may be transparent. A kind that was joined to one of another packet still takes cases
+        of its own packet. A sequence with a packet at which a player breaks down is a case of it."""
+        page = ['page', 'texture']
+        kinds = {'a': kind('rectangle', page, COLOURS), 'b': kind('polygon', page, COLOURS),
+                 'c': kind('polygon', ['a scaled texture', 'page', 'texture']), 'd': kind('line', ['polyline'], BROKEN),
+                 'e': Kind('reads', 'reads', BROKEN, ['E3h', 'line'], ['E3h', 'line']),
+                 'f': Kind('reads', 'reads', BROKEN, ['fill'], ['fill']),
+                 'g': Kind('reads', 'reads', 'another word', ['fill'], ['fill'])}
+        found = causes(kinds, Samples())
+        self.assertEqual(sorted(sorted(cause.keys) for cause in found), [['a', 'b', 'c'], ['d', 'e'], ['f'], ['g']])
+
+    def test_causes_in_x_and_y(self):
+        """What is the same with X and Y exchanged is one. Opposite looks of two packets are not, nor is a sequence one
+        with a packet, unless it has bits that mean nothing."""
+        kinds = {'a': kind('fill', ['its box over the bottom']), 'b': kind('fill', ['its box over the right edge']),
+                 'c': kind('load', ['tested-mask'], ALONE), 'd': kind('polygon', ['tested-mask'], NOTHING),
+                 'e': kind('copy', ['unused-bits'], NOTHING),
+                 'f': kind('status', ['copy', 'copy with bits that mean nothing'], 'bit 3'),
+                 'g': kind('status', ['copy'], 'bit 3')}
+        found = causes({key: kinds[key] for key in 'abcdef'}, Samples())
+        self.assertEqual(sorted(sorted(cause.keys) for cause in found), [['a', 'b'], ['c'], ['d'], ['e', 'f']])
+        self.assertEqual(len(causes({key: kinds[key] for key in 'eg'}, Samples())), 2)
+
     def test_sequences(self):
         """What is open, unfinished or asked for in a sequence of records."""
         store, read, status = (GP0, 3, (0xC0000000, 0, 0x00010003)), (READ, 2, ()), (STAT, 1, ())
@@ -103,6 +137,7 @@ class Parts(unittest.TestCase):
                 ([store, (GP0, 1, (0xE1000000,)), read], {'an open store', 'E1h'}), ([read], {'nothing before it'}),
                 ([(GP0, 2, (0x20000000, 0)), status], {'an unfinished packet'}),
                 ([(GP1, 1, (0x10000003,)), read], {'GP1(10h) 2 to 5'}),
+                ([(GP0, 4, (0x81000000, 0, 0, 1)), status], {'copy', 'copy with bits that mean nothing'}),
                 ([(GP1, 1, (0x44000001,)), status], {'GP1 from 40h'})):
             self.assertEqual(sequence_facts(records), facts)
 
@@ -155,6 +190,15 @@ class Judging(unittest.TestCase):
         verdicts = DumpBench(self.ours, fault, ground_of(1)).judge([FILL, RECTANGLE])
         self.assertEqual([verdict.looks for verdict in verdicts], [set(), {STEP}])
         self.assertEqual(DumpBench(self.ours, Same('play'), ()).judge([FILL] * 3)[2].looks, set())
+
+    def test_area_of_ten_bits(self):
+        """A player that takes ten bits of the last row of the drawing area draws below the box of ours."""
+        def fault(name, words, registers):
+            return [words[0] | 0x7FC00] if words[0] >> 24 == 0xE4 and words[0] & 0x80000 else words
+        below = packed([(0xE40883FF,), (0x60FFFFFF, 100 << 16, 0x00020002)])
+        bench = Bench(self.ours, wrong.Wrong(fault), ground_of(1))
+        self.assertEqual(bench.judge([below])[0].looks, {ALONE})
+        self.assertIn('an area corner with Y above 511', facts_of(below))
 
     def test_break_down(self):
         line = packed([(0x48FFFFFF, 0, 5, 0x00050005, 0x50005, 0x50000, 0x55555555)])
@@ -249,14 +293,50 @@ class Asked(support.InFolder):
         return Asking(Bench(player_of(support.PLAYER), fault, ground_of(1)), store)
 
     def test_a_case(self):
-        """The Y flip of wide rectangles is lost. A second kind has another reason in its text, and the same cause."""
+        """The Y flip of wide rectangles is lost. A second kind has another reason in its text, and the same cause: one
+        row has nothing to flip."""
         flipped = [(0xE1002008,), (0xE407FFFF,), self.SPRITE]
         asking = self.asking(wrong.FAULTS['wide_unflipped'], a=(flipped, ['texture', 'y-flip', 'width above 16']),
                              b=(flipped, ['texture', 'height above 1']))
         asking.ask()
-        self.assertEqual((asking.store.kinds['a'].same, asking.store.kinds['b'].same), ([], ['a']))
+        self.assertEqual(asking.store.kinds['b'].same, ['a'])
         again = Store(self.path('kinds'), 'psxgpu fuzz').kinds
         self.assertEqual([cause.keys for cause in causes(again, Samples())], [['b', 'a']])
+
+    def test_reads_of_what_is_drawn(self):
+        """Fills of 257 rows lose 256 of them. A sequence that reads the cells shows the same; one that reads a store of
+        an odd number of cells does not."""
+        asking = self.asking(wrong.FAULTS['low_fills'], a=([(0x02123456, 0, 0x01010010)], ['height above 255']))
+        asking.store.kinds['a'].look = OTHERS
+        for key, fill in (('b', (0x02123456, 0, 0x01000010)), ('c', (0x02123456, 0, 0x00010010))):
+            capture = Capture(1).gp0(fill).gp0([0xC0000000, 0, 0x00010001]).read(1).bytes()
+            asking.store.put(key, Kind('reads', 'reads', 'another word', ['a store', 'fill'], []),
+                             [Content(asking.store.path('kinds/%s.capture' % key), capture)])
+        asking.ask()
+        self.assertEqual([kind.same for kind in asking.store.kinds.values()], [[], ['a'], []])
+
+    def test_what_another_fact_implies(self):
+        """A player draws no line longer than a cell. One that is cut on the left is always longer."""
+        shorter = wrong.Wrong(lambda name, words, registers: [0] if name == 'line' and words[1] != words[2] else words)
+        line = [(0xE407FFFF,), (0x40123456, 0x7FF, 0)]
+        asking = self.asking(shorter, a=([(0xE407FFFF,), (0x40123456, 0, 8)], ['longer than a cell']),
+                             b=(line, ['cut on the left']))
+        for kind in asking.store.kinds.values():
+            kind.look = NOTHING
+        asking.ask()
+        self.assertEqual(asking.store.kinds['b'].same, ['a'])
+
+    def test_bits_of_a_register(self):
+        """The window loses bit 4 of its mask Y: what a read returns and what is drawn are one."""
+        sprite = [(0xE1000108,), (0xE2000200,), (0xE407FFFF,), (0x65000000, 0, 0xA000, 0x00200010)]
+        asking = self.asking(wrong.FAULTS['window_without_bit_4'], a=(sprite, ['texture', 'window']))
+        capture = Capture(1).gp0([0xE2000200]).gp1(0x10000002).read(1).bytes()
+        asking.store.put('b', Kind('reads', 'reads', 'another word', ['E2h', 'GP1(10h) 2 to 5'], []),
+                         [Content(asking.store.path('kinds/b.capture'), capture)])
+        asking.ask()
+        self.assertEqual([kind.same for kind in asking.store.kinds.values()], [['b'], []])
+        (found,) = causes(asking.store.kinds, Samples())
+        self.assertEqual((found.key, found.labels), ('a', ['rectangle', 'reads']))
 
     LINE = [(0xE1000200,), (0xE407FFFF,), (0x40123456, 0, 0x00000008)]
     TRIANGLE = [(0xE1000200,), (0xE407FFFF,), (0x30123456, 0, 0x00123456, 0x00000010, 0x00123456, 0x00100000)]

@@ -6,7 +6,7 @@ import unittest
 from unittest import mock
 
 from psxgpu.command import ToolError
-from psxgpu.players.named import CommandPlayer, arguments_of, dump_of, expect_dump, player_of, with_mode
+from psxgpu.players.named import CommandPlayer, Done, arguments_of, dump_of, expect_dump, player_of, with_mode
 from psxgpu.players import player as program
 from psxgpu.players.trial_run import OURS, trial_captures, try_commands, try_player, try_words
 from tests import support
@@ -59,6 +59,15 @@ class Wrong(support.InFolder):
             with self.assertRaises(ToolError) as caught:
                 expect_dump(CommandPlayer(command), EMPTY, 1)
             self.assertEqual(str(caught.exception), want)
+
+    def test_output(self) -> None:
+        """What a process writes word by word, and one that goes on for too long, after it closed its output or not."""
+        for command, want in (('for k in 1 2 3; do echo $k; sleep 0.01; done #', Done(0, b'1\n2\n3\n', b'')),
+                              ('exec >&-; sleep 9 #', Done(None, b'', b'')),
+                              ('echo 1; sleep 9 #', Done(None, b'', b'')),
+                              ('wc -c; echo one >&2; exit 3 #', Done(3, b'12\n', b'one\n'))):
+            with self.subTest(command):
+                self.assertEqual(CommandPlayer(command).run('play', EMPTY, 0.5), want)
 
     def test_the_same_dump(self) -> None:
         zeros = CommandPlayer('cat > /dev/null; head -c 1048576 /dev/zero #')

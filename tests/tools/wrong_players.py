@@ -62,10 +62,10 @@ class Wrong(Player):
         out = words[:start]
         list(splitter.push(words[:start]))
         for packet in packets_of(words, start):
-            before = dict(splitter.registers)
+            before, (name, wanted) = dict(splitter.registers), name_and_length(packet[0])
             list(splitter.push(packet))
-            is_whole = len(packet) >= name_and_length(packet[0])[1]
-            out += self.packet(name_and_length(packet[0])[0], packet, before) if is_whole else packet
+            is_whole = len(packet) >= wanted
+            out += self.packet(name, packet, before) if is_whole else packet
         return out
 
     def run(self, mode, data, seconds=None):
@@ -174,8 +174,8 @@ def offset_without_sign(name, words, registers):
 
 
 def narrow_untested(name, words, registers):
-    """Does not test the mask in loads one cell wide."""
-    is_narrow = name == LOAD and cells_of(words[2])[0] == 1
+    """Does not test the mask in whole loads one cell wide."""
+    is_narrow = name == LOAD and cells_of(words[2])[0] == 1 and len(words) == 3 + data_words(words[2])
     return under(MASK, registers[MASK] & 1, words, registers) if is_narrow else words
 
 
