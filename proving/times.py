@@ -7,7 +7,8 @@ lemmas that took longest (20), the longest first. `rt` itself prints no times. B
 module that it has checked, one after another, so the time between two files is what the later one took.
 
 What an earlier check kept is not proved again and has no time; a line says how many modules that are. For the times of
-all, remove crates/CRATE/out/incremental first. --keep writes the processor seconds of the crate to proving/seconds.txt,
+all, put an empty folder in the place of crates/CRATE/out/incremental first: where there is none, `rt` takes what another
+checkout on this machine has kept. --keep writes the processor seconds of the crate to proving/seconds.txt,
 by which plan.py plans, if all of it was proved in this run. Status: that of `rt`; 2 where there is nothing to be read.
 """
 import argparse
