@@ -25,7 +25,7 @@ from psxgpu.stream import GP0, Stream
 ASKED, LEAST = 12, 6        # experiments on each side of a fact, and how few decide nothing
 REGISTERS = KEPT[False]     # the bits of E1h to E6h
 QUESTION = 'GP1(10h) 2 to 5'
-ASKED_FOR = {'E%Xh' % number: 0xE0 + number for number in range(2, 6)}      # facts of sequences, and the registers
+ASKED_FOR = {'E2h': 0xE2, 'E5h': 0xE5}      # facts of sequences, and the registers: those of the area only cut
 HARDLY, MOSTLY = 0.1, 0.5   # shares of those that differ without the fact, and with it
 
 

@@ -112,10 +112,10 @@ def is_case(one: Kind, other: Kind, samples: Samples) -> bool:
 
 
 def shown_rule(one: Cause, other: Cause, kinds: Dict[str, Kind]) -> Optional[Facts]:
-    """Returns the facts of the more general one of two causes, if experiments have shown that a kind of one is a case
-    of a kind of the other."""
+    """Returns the facts of the more general one of two causes, if experiments have shown that the kind of one is a case
+    of a kind of the other. A case of two causes does not join them."""
     for special, general in ((one, other), (other, one)):
-        if any(not set(kinds[key].same).isdisjoint(general.keys) for key in special.keys):
+        if not set(kinds[special.key].same).isdisjoint(general.keys):
             return (special if general.kind.name == READS else general).kind.rule
     return None
 

@@ -312,9 +312,15 @@ class Reading:
     def reduce(self, records: List[Record], new: New) -> None:
         """Reduces a sequence alone, and keeps it as a kind."""
         hunt, begin = self.hunt, self.hunt.time
-        hunt.counts['reductions'] += 1
         fault = BitsDiffer(new.bits)
-        found = self.reduced(self.plainer(records, fault), fault) if self.is_shown(records, fault) else None
+        records = self.fewer(records, fault)
+        less = new._replace(facts=facts_of(records)) if records else new
+        less = less._replace(bits=self.unknown(less))
+        if not less.bits or less != new and self.tried[less]:
+            return
+        self.tried[less] += less != new
+        hunt.counts['reductions'] += 1
+        found = self.reduced(self.plainer(records, fault), fault) if records else None
         if found is None:
             hunt.counts['not shown alone'] += 1
             return
@@ -340,6 +346,16 @@ class Reading:
         """Returns whether a sequence alone differs."""
         bench = self.hunt.bench
         return fault.shows(bench.ours, bench.theirs, data_of([records]), bench.seconds)
+
+    def fewer(self, records: List[Record], fault: BitsDiffer) -> List[Record]:
+        """Returns a sequence that differs, too, without records that this does not need; none if it does not differ
+        alone."""
+        if not self.is_shown(records, fault):
+            return []
+        for at in reversed(range(len(records) - 1)):
+            rest = records[:at] + records[at + 1:]
+            records = rest if self.is_shown(rest, fault) else records
+        return records
 
     def plainer(self, records: List[Record], fault: BitsDiffer) -> List[Record]:
         """Returns a sequence that differs, too, whose control words have as few bits as they can."""

@@ -26,7 +26,7 @@ from psxgpu.reduce.units import Unit, capture_of, load_unit
 from psxgpu.stream import GP0, encode
 from psxgpu.viewing.linked import page_of_reduced
 
-MOST_PROBES, MOST_SECONDS = 900, 8.0        # of a reduction, in seconds of processor time
+MOST_PROBES, MOST_SECONDS = 900, 8.0        # of a try, and of all tries of a kind, in seconds of processor time
 MOST_LOADED = 60000         # cells of what a packet reads
 HEADER = 3                  # words of a load before its data
 # On cells of 0 what has other colours may also be another shape: the texel 0000h is not drawn.
@@ -143,11 +143,12 @@ def reduce_kind(bench: Bench, experiment: Experiment, look: str, needs: Facts) -
     alone. It may look otherwise on cells of 0. If it then looks otherwise on the ground, it was another difference. So
     it has to look the same. At last it is no pair: other differences of the packet may hinder that."""
     best: Optional[Found] = None
+    until = processor_time() + MOST_SECONDS
     for is_strict, chosen in ((False, needs), (True, needs), (False, needs - set(FEATURES))):
         if best and not is_strict:
             break
         prober = KindProber(bench, look, needs)
-        prober.name = name_of(experiment[-1])
+        prober.name, prober.until = name_of(experiment[-1]), until
         if is_strict:
             prober.looks = tuple(similar(look))
         elif READING & facts_of(experiment):      # on other cells its texels, or what it reads, are others, too

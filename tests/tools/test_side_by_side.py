@@ -5,9 +5,13 @@ import glob
 import lzma
 import os
 import random
+import signal
+import subprocess
+import sys
 import threading
+import time
 import unittest
-from typing import List
+from typing import Callable, List
 from unittest import mock
 
 from psxgpu import capture as c
@@ -20,6 +24,7 @@ from psxgpu.players.flat import flattened
 from psxgpu.players.listed import Walk
 from psxgpu.players.named import player_of
 from psxgpu.players.parts import PartWalk, parts_of
+from psxgpu.stopping import session
 from psxgpu.textures.parts import collected
 from tests import support
 
@@ -34,6 +39,23 @@ def failing(number: int) -> int:
         with open('/nowhere/two', 'rb'):
             pass
     return [5][number]
+
+
+def waiting(pids: str) -> None:
+    """Starts a player that does not end, and waits for it."""
+    with session(['sh', '-c', 'echo $$ >> "$0"; exec sleep 300', pids]) as child:
+        child.wait()
+
+
+# Runs two of them side by side, and may be stopped.
+WAITS = """
+import sys
+from psxgpu.parallel import results
+from psxgpu.stopping import stoppable
+from tests.tools.test_side_by_side import waiting
+with stoppable():
+    list(results(2, waiting, [(sys.argv[1],), (sys.argv[1],)]))
+"""
 
 
 def recording(seed: int) -> bytes:
@@ -76,6 +98,23 @@ class Calls(unittest.TestCase):
         for number, said in ((1, '^one$'), (2, '^/nowhere/two: No such file'), (3, 'IndexError')):
             with self.assertRaisesRegex(ToolError, said):
                 list(results(2, failing, [(0,), (number,)]))
+
+
+class Stopped(support.InFolder):
+    def test_all_end(self) -> None:
+        """What the processes of a tool have started ends with the tool."""
+        pids = self.write('pids', '')
+        with subprocess.Popen([sys.executable, '-c', WAITS, pids], cwd=support.TOP, stderr=subprocess.DEVNULL) as child:
+            self.until(lambda: self.read('pids').count(b'\n') == 2)
+            child.send_signal(signal.SIGTERM)
+        self.until(lambda: not any(os.path.exists('/proc/' + pid.decode()) for pid in self.read('pids').split()))
+
+    def until(self, holds: Callable[[], bool]) -> None:
+        """Waits until something holds."""
+        end = time.monotonic() + 60
+        while not holds():
+            self.assertLess(time.monotonic(), end)
+            time.sleep(0.02)
 
 
 @support.needs_player
