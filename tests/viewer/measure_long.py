@@ -86,9 +86,21 @@ def changed(page):
     return sorted(out)
 
 
+def held(page):
+    """The most MB that a process of a page has held. On Linux alone."""
+    found = []
+    for process in page.call('SystemInfo.getProcessInfo')['processInfo']:
+        if process['type'] == 'renderer':
+            with open('/proc/%d/status' % process['id'], encoding='ascii') as file:
+                found += [int(line.split()[1]) / 1000 for line in file if line.startswith('VmHWM')]
+    return max(found, default=0)
+
+
 def measure(page, path):
     """Prints the times of one recording."""
+    before = held(page)
     shown, there, played = opened(page, path)
+    most = held(page)
     length = page.evaluate('probe.app.recording.length')
     print('%s: %d bytes, %d steps' % (os.path.basename(path), os.path.getsize(path), length))
     print('  shown after %d ms, its last frame after %d ms, all played after %d ms' % (shown, there, played))
@@ -101,7 +113,9 @@ def measure(page, path):
         print('  history of (%d, %d): first after %d ms, all after %d ms, %d changes' % (x, y, *history(page, x, y)))
     late = changed(page)
     print('  a change near the end: %d ms in the middle, %d at most' % (late[4], late[-1]))
-    print('  %d states of %d MB, %d MB in all' % tuple(page.ask('kept')), flush=True)
+    print('  %d states of %d MB, %d MB in all' % tuple(page.ask('kept')))
+    print('  the module holds %d MB, the process of the page at most %d MB when all was played; %d MB before'
+          % (page.ask('moduleBytes') / 1e6, most, before), flush=True)
 
 
 def main():
