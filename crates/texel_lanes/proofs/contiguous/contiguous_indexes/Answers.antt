@@ -10,5 +10,6 @@ returns-clause-indexes g c = record {
   low = c.sixteen_indexes.ensures.low;
   value = λ j lane.
       beside_index c.args.texture.now c.args.at.now j _ c.args.vram.now c.requires.depth c.requires.beside
-      (c.requires.readable.us.bytes j lane) (c.requires.readable.vs.bytes j lane) lane (c.sixteen_indexes.ensures.value j lane);
+      (c.requires.readable.us.bytes j lane) (c.requires.readable.vs.bytes j lane) lane
+      (c.sixteen_indexes.ensures.value j lane);
 }
