@@ -5,16 +5,26 @@ use Rattle.packet_text.specs.Number.{word_text, address_text}
 use Rattle.packet_text.specs.Tap.{last_lines}
 use Rattle.gpu_capture.specs.declared.event.Stop.{Stop}
 use Rattle.gpu_capture.specs.declared.event.Stop.TheVariants.{End, NotCapture, Truncated, BadRecord, TooLong, ReadFault}
+use Rattle.event_loop.specs.declared.ended.Ended.{Ended}
+use Rattle.event_loop.specs.declared.ended.Ended.TheVariants as ended
+use Rattle.capture_flat.specs.Ended.{flat_ended}
 use Rattle.capture_flat.specs.declared.ending.FlatEnding.{FlatEnding}
-use Rattle.capture_flat.specs.declared.ending.FlatEnding.TheVariants as flat
+use Rattle.capture_flat.specs.declared.refusal.FlatRefusal.{FlatRefusal}
+use Rattle.capture_flat.specs.declared.refusal.FlatRefusal.TheVariants as flat
+use Rattle.capture_cut.specs.Ended.{cut_ended}
 use Rattle.capture_cut.specs.declared.ending.CutEnding.{CutEnding}
-use Rattle.capture_cut.specs.declared.ending.CutEnding.TheVariants as cut
+use Rattle.capture_cut.specs.declared.ending.CutRefusal.{CutRefusal}
+use Rattle.capture_cut.specs.declared.ending.CutRefusal.TheVariants as cut
+use Rattle.capture_slim.specs.Ended.{slim_ended}
 use Rattle.capture_slim.specs.declared.ending.SlimEnding.{SlimEnding}
-use Rattle.capture_slim.specs.declared.ending.SlimEnding.TheVariants as slim
+use Rattle.capture_slim.specs.declared.ending.SlimRefusal.{SlimRefusal}
+use Rattle.capture_slim.specs.declared.ending.SlimRefusal.TheVariants as slim
 use Rattle.gpu_snapshot.specs.declared.ending.AnyEnding.{AnyEnding}
 use Rattle.gpu_snapshot.specs.declared.ending.AnyEnding.TheVariants as any
+use Rattle.event_play.specs.Causes.{play_ended}
 use Rattle.event_play.specs.declared.ending.Ending.{Ending}
-use Rattle.event_play.specs.declared.ending.Ending.TheVariants.{Done, Stopped, Faulted, NoPicture, WriteFailed}
+use Rattle.event_play.specs.declared.ending.PlayRefusal.{PlayRefusal}
+use Rattle.event_play.specs.declared.ending.PlayRefusal.TheVariants as play
 use Rattle.event_play.specs.declared.fault.EventFault.{EventFault}
 use Rattle.event_play.specs.declared.fault.EventFault.TheVariants.{BadDma, DmaTooLong, ListLoop}
 
@@ -63,28 +73,38 @@ fault_line event BadDma = event_line (codes "bad-dma") event
 fault_line event (DmaTooLong words) = too_long_line event words
 fault_line event (ListLoop node) = list_loop_line event node
 
--- the line of an ending; empty after a success
-abbrev pub ending_line : Ending → List ℕ
-ending_line Done = []
-ending_line (Stopped event stop) = stop_line event stop
-ending_line (Faulted event fault) = fault_line event fault
-ending_line (NoPicture event) = event_line (codes "no-picture") event
-ending_line (WriteFailed event) = event_line (codes "write-fault") event
+-- ---- a loop over events
 
--- ---- the exit status
+-- its line, given those of the command's own refusals; empty after a success
+abbrev pub ended_line : {R : Type 0} → (R → List ℕ) → Ended R → List ℕ
+ended_line line ended.Done = []
+ended_line line (ended.Stopped event stop) = stop_line event stop
+ended_line line (ended.Refused why) = line why
+ended_line line (ended.WriteFailed event) = event_line (codes "write-fault") event
 
--- that of a stop of the reader
+-- the exit status of a stop of the reader
 abbrev pub status_of_stop : Stop → ℕ
 status_of_stop (ReadFault byte) = 3
 status_of_stop stop = 2
 
--- the exit status of an ending
+-- its exit status
+abbrev pub ended_status : {R : Type 0} → Ended R → ℕ
+ended_status ended.Done = 0
+ended_status (ended.Stopped event stop) = status_of_stop stop
+ended_status (ended.Refused why) = 2
+ended_status (ended.WriteFailed event) = 4
+
+-- ---- playing
+
+abbrev pub play_refusal_line : PlayRefusal → List ℕ
+play_refusal_line (play.Fault event fault) = fault_line event fault
+play_refusal_line (play.NoPicture event) = event_line (codes "no-picture") event
+
+abbrev pub ending_line : Ending → List ℕ
+ending_line ending = ended_line play_refusal_line (play_ended ending)
+
 abbrev pub status_of : Ending → ℕ
-status_of Done = 0
-status_of (Stopped event stop) = status_of_stop stop
-status_of (Faulted event fault) = 2
-status_of (NoPicture event) = 2
-status_of (WriteFailed event) = 4
+status_of ending = ended_status (play_ended ending)
 
 -- ---- the last items
 
@@ -114,59 +134,46 @@ any_text ending heard = told (any_line ending) (any_status ending) heard
 
 -- ---- the same for a flat capture
 
+abbrev pub flat_refusal_line : FlatRefusal → List ℕ
+flat_refusal_line (flat.Fault event fault) = fault_line event fault
+flat_refusal_line (flat.TooMuch event) = event_line (codes "out-too-long") event
+
 abbrev pub flat_line : FlatEnding → List ℕ
-flat_line flat.Done = []
-flat_line (flat.Stopped event stop) = stop_line event stop
-flat_line (flat.Faulted event fault) = fault_line event fault
-flat_line (flat.TooLong event) = event_line (codes "out-too-long") event
-flat_line (flat.WriteFailed event) = event_line (codes "write-fault") event
+flat_line ending = ended_line flat_refusal_line (flat_ended ending)
 
 abbrev pub flat_status : FlatEnding → ℕ
-flat_status flat.Done = 0
-flat_status (flat.Stopped event stop) = status_of_stop stop
-flat_status (flat.Faulted event fault) = 2
-flat_status (flat.TooLong event) = 2
-flat_status (flat.WriteFailed event) = 4
+flat_status ending = ended_status (flat_ended ending)
 
 abbrev pub flat_text : FlatEnding → List Reading → List ℕ
 flat_text ending heard = told (flat_line ending) (flat_status ending) heard
 
 -- ---- the same for a capture without dead drawing
 
+abbrev pub slim_refusal_line : SlimRefusal → List ℕ
+slim_refusal_line (slim.NotFlat event) = event_line (codes "not-flat") event
+slim_refusal_line (slim.TooLong event) = event_line (codes "out-too-long") event
+
 abbrev pub slim_line : SlimEnding → List ℕ
-slim_line slim.Done = []
-slim_line (slim.Stopped event stop) = stop_line event stop
-slim_line (slim.NotFlat event) = event_line (codes "not-flat") event
-slim_line (slim.TooLong event) = event_line (codes "out-too-long") event
-slim_line (slim.WriteFailed event) = event_line (codes "write-fault") event
+slim_line ending = ended_line slim_refusal_line (slim_ended ending)
 
 abbrev pub slim_status : SlimEnding → ℕ
-slim_status slim.Done = 0
-slim_status (slim.Stopped event stop) = status_of_stop stop
-slim_status (slim.NotFlat event) = 2
-slim_status (slim.TooLong event) = 2
-slim_status (slim.WriteFailed event) = 4
+slim_status ending = ended_status (slim_ended ending)
 
 abbrev pub slim_text : SlimEnding → List Reading → List ℕ
 slim_text ending heard = told (slim_line ending) (slim_status ending) heard
 
 -- ---- the same for a capture that is cut
 
+abbrev pub cut_refusal_line : CutRefusal → List ℕ
+cut_refusal_line (cut.PastEnd event) = event_line (codes "cut-past-end") event
+cut_refusal_line (cut.Fault event fault) = fault_line event fault
+cut_refusal_line (cut.TooLong event) = event_line (codes "out-too-long") event
+
 abbrev pub cut_line : CutEnding → List ℕ
-cut_line cut.Done = []
-cut_line (cut.PastEnd event) = event_line (codes "cut-past-end") event
-cut_line (cut.Stopped event stop) = stop_line event stop
-cut_line (cut.Faulted event fault) = fault_line event fault
-cut_line (cut.TooLong event) = event_line (codes "out-too-long") event
-cut_line (cut.WriteFailed event) = event_line (codes "write-fault") event
+cut_line ending = ended_line cut_refusal_line (cut_ended ending)
 
 abbrev pub cut_status : CutEnding → ℕ
-cut_status cut.Done = 0
-cut_status (cut.Stopped event stop) = status_of_stop stop
-cut_status (cut.PastEnd event) = 2
-cut_status (cut.Faulted event fault) = 2
-cut_status (cut.TooLong event) = 2
-cut_status (cut.WriteFailed event) = 4
+cut_status ending = ended_status (cut_ended ending)
 
 abbrev pub cut_text : CutEnding → List Reading → List ℕ
 cut_text ending heard = told (cut_line ending) (cut_status ending) heard

@@ -10,7 +10,7 @@ use gpu_taps::Listener;
 use packet_text::write_last;
 
 /// The ending of a command, as an exit status and a line.
-pub trait Ended: Copy {
+pub trait Explained: Copy {
     /// The exit status.
     ghost exit: { Self → ℕ };
 
@@ -29,7 +29,7 @@ pub trait Ended: Copy {
 
 /// Writes the line of a failure and the last items of the taps to `err`. Returns the exit status. Errors of `err` are
 /// ignored.
-pub fn end<N: Ended, E: Sink, T: Listener>(err: &mut E, ending: N, taps: &Vec<T>) -> u8
+pub fn end<N: Explained, E: Sink, T: Listener>(err: &mut E, ending: N, taps: &Vec<T>) -> u8
     ensures status { result ≡ N.exit ending }
     ensures says { Says (side E.held E.faults err.old) (side E.held E.faults err.new)
         (told (N.line ending) (N.exit ending) (map T.heard taps.now.items)) }
@@ -43,7 +43,7 @@ pub fn end<N: Ended, E: Sink, T: Listener>(err: &mut E, ending: N, taps: &Vec<T>
 }
 
 // Writes the line of an ending and, for status 2, the last items.
-fn write_told<N: Ended, E: Sink, T: Listener>(
+fn write_told<N: Explained, E: Sink, T: Listener>(
     err: &mut E,
     ending: N,
     taps: &Vec<T>,

@@ -1,17 +1,76 @@
 // The endings of the commands.
-ghost use Rattle.std.specs.Prelude.{◌≡◌};
+ghost use Rattle.std.specs.Prelude.{◌≡◌, ℕ, List, []};
+ghost use Rattle.dev_io.specs.Device.{Writes, side};
 ghost use Rattle.psxgpu_tool.specs.Line.{any_line, any_status, cut_line, cut_status, ending_line};
 ghost use Rattle.psxgpu_tool.specs.Line.{flat_line, flat_status, slim_line, slim_status, status_of, status_of_stop};
+ghost use Rattle.psxgpu_tool.specs.Line.{ended_line, ended_status, play_refusal_line, flat_refusal_line};
+ghost use Rattle.psxgpu_tool.specs.Line.{slim_refusal_line, cut_refusal_line};
 
-use crate::ending::Ended;
+use crate::ending::Explained;
 use crate::line::{write_event, write_fault, write_stop, write_word};
-use capture_cut::CutEnding;
-use capture_flat::FlatEnding;
-use capture_slim::SlimEnding;
+use capture_cut::{CutEnding, CutRefusal};
+use capture_flat::{FlatEnding, FlatRefusal};
+use capture_slim::{SlimEnding, SlimRefusal};
 use dev_io::{Failed, Sink};
-use event_play::Ending;
+use event_loop::{AsEnded, Ended};
+use event_play::{Ending, PlayRefusal};
 use gpu_capture::Stop;
 use gpu_snapshot::AnyEnding;
+
+/// A command's own refusal.
+trait Refusal: Copy {
+    /// The line that explains it.
+    ghost line: { Self → List ℕ };
+
+    /// Writes the line.
+    fn write_why<E: Sink>(self, err: &mut E) -> Result<(), Failed>
+        ensures { Writes (side E.held E.faults) err.old err.new (line self) result };
+}
+
+impl Refusal for PlayRefusal {
+    ghost line = { play_refusal_line };
+
+    fn write_why<E: Sink>(self, err: &mut E) -> Result<(), Failed> {
+        match self {
+            PlayRefusal::Fault { event, fault } => write_fault(err, event, fault),
+            PlayRefusal::NoPicture { event } => write_event(err, b"no-picture", event),
+        }
+    }
+}
+
+impl Refusal for FlatRefusal {
+    ghost line = { flat_refusal_line };
+
+    fn write_why<E: Sink>(self, err: &mut E) -> Result<(), Failed> {
+        match self {
+            FlatRefusal::Fault { event, fault } => write_fault(err, event, fault),
+            FlatRefusal::TooMuch { event } => write_event(err, b"out-too-long", event),
+        }
+    }
+}
+
+impl Refusal for SlimRefusal {
+    ghost line = { slim_refusal_line };
+
+    fn write_why<E: Sink>(self, err: &mut E) -> Result<(), Failed> {
+        match self {
+            SlimRefusal::NotFlat { event } => write_event(err, b"not-flat", event),
+            SlimRefusal::TooLong { event } => write_event(err, b"out-too-long", event),
+        }
+    }
+}
+
+impl Refusal for CutRefusal {
+    ghost line = { cut_refusal_line };
+
+    fn write_why<E: Sink>(self, err: &mut E) -> Result<(), Failed> {
+        match self {
+            CutRefusal::PastEnd { event } => write_event(err, b"cut-past-end", event),
+            CutRefusal::Fault { event, fault } => write_fault(err, event, fault),
+            CutRefusal::TooLong { event } => write_event(err, b"out-too-long", event),
+        }
+    }
+}
 
 /// Returns the exit status of a run that a stop of the reader ended: 3 after a failed read, else 2.
 fn status_of_stop(stop: Stop) -> u8
@@ -23,33 +82,46 @@ fn status_of_stop(stop: Stop) -> u8
     }
 }
 
-impl Ended for Ending {
+/// Returns the exit status of a command that ends as a loop over events does.
+fn ended_status<R: Refusal>(ended: Ended<R>) -> u8
+    ensures exit { result ≡ ended_status ended }
+    ensures silent { result ≡ 0 → ended_line R.line ended ≡ [] }
+{
+    match ended {
+        Ended::Done => 0,
+        Ended::Stopped { stop, .. } => status_of_stop(stop),
+        Ended::Refused { .. } => 2,
+        Ended::WriteFailed { .. } => 4,
+    }
+}
+
+/// Writes the line of a command that ends as a loop over events does.
+fn write_ended<R: Refusal, E: Sink>(ended: Ended<R>, err: &mut E) -> Result<(), Failed>
+    ensures { Writes (side E.held E.faults) err.old err.new (ended_line R.line ended) result }
+{
+    match ended {
+        Ended::Done => Ok(()),
+        Ended::Stopped { event, stop } => write_stop(err, event, stop),
+        Ended::Refused { why } => why.write_why(err),
+        Ended::WriteFailed { event } => write_event(err, b"write-fault", event),
+    }
+}
+
+impl Explained for Ending {
     ghost exit = { status_of };
 
     ghost line = { ending_line };
 
     fn status(self) -> u8 {
-        match self {
-            Ending::Done => 0,
-            Ending::Stopped { stop, .. } => status_of_stop(stop),
-            Ending::Faulted { .. } => 2,
-            Ending::NoPicture { .. } => 2,
-            Ending::WriteFailed { .. } => 4,
-        }
+        ended_status(self.ended())
     }
 
     fn write_line<E: Sink>(self, err: &mut E) -> Result<(), Failed> {
-        match self {
-            Ending::Done => Ok(()),
-            Ending::Stopped { event, stop } => write_stop(err, event, stop),
-            Ending::Faulted { event, fault } => write_fault(err, event, fault),
-            Ending::NoPicture { event } => write_event(err, b"no-picture", event),
-            Ending::WriteFailed { event } => write_event(err, b"write-fault", event),
-        }
+        write_ended(self.ended(), err)
     }
 }
 
-impl Ended for AnyEnding {
+impl Explained for AnyEnding {
     ghost exit = { any_status };
 
     ghost line = { any_line };
@@ -75,82 +147,44 @@ impl Ended for AnyEnding {
     }
 }
 
-impl Ended for FlatEnding {
+impl Explained for FlatEnding {
     ghost exit = { flat_status };
 
     ghost line = { flat_line };
 
     fn status(self) -> u8 {
-        match self {
-            FlatEnding::Done => 0,
-            FlatEnding::Stopped { stop, .. } => status_of_stop(stop),
-            FlatEnding::Faulted { .. } => 2,
-            FlatEnding::TooLong { .. } => 2,
-            FlatEnding::WriteFailed { .. } => 4,
-        }
+        ended_status(self.ended())
     }
 
     fn write_line<E: Sink>(self, err: &mut E) -> Result<(), Failed> {
-        match self {
-            FlatEnding::Done => Ok(()),
-            FlatEnding::Stopped { event, stop } => write_stop(err, event, stop),
-            FlatEnding::Faulted { event, fault } => write_fault(err, event, fault),
-            FlatEnding::TooLong { event } => write_event(err, b"out-too-long", event),
-            FlatEnding::WriteFailed { event } => write_event(err, b"write-fault", event),
-        }
+        write_ended(self.ended(), err)
     }
 }
 
-impl Ended for SlimEnding {
+impl Explained for SlimEnding {
     ghost exit = { slim_status };
 
     ghost line = { slim_line };
 
     fn status(self) -> u8 {
-        match self {
-            SlimEnding::Done => 0,
-            SlimEnding::Stopped { stop, .. } => status_of_stop(stop),
-            SlimEnding::NotFlat { .. } => 2,
-            SlimEnding::TooLong { .. } => 2,
-            SlimEnding::WriteFailed { .. } => 4,
-        }
+        ended_status(self.ended())
     }
 
     fn write_line<E: Sink>(self, err: &mut E) -> Result<(), Failed> {
-        match self {
-            SlimEnding::Done => Ok(()),
-            SlimEnding::Stopped { event, stop } => write_stop(err, event, stop),
-            SlimEnding::NotFlat { event } => write_event(err, b"not-flat", event),
-            SlimEnding::TooLong { event } => write_event(err, b"out-too-long", event),
-            SlimEnding::WriteFailed { event } => write_event(err, b"write-fault", event),
-        }
+        write_ended(self.ended(), err)
     }
 }
 
-impl Ended for CutEnding {
+impl Explained for CutEnding {
     ghost exit = { cut_status };
 
     ghost line = { cut_line };
 
     fn status(self) -> u8 {
-        match self {
-            CutEnding::Done => 0,
-            CutEnding::PastEnd { .. } => 2,
-            CutEnding::Stopped { stop, .. } => status_of_stop(stop),
-            CutEnding::Faulted { .. } => 2,
-            CutEnding::TooLong { .. } => 2,
-            CutEnding::WriteFailed { .. } => 4,
-        }
+        ended_status(self.ended())
     }
 
     fn write_line<E: Sink>(self, err: &mut E) -> Result<(), Failed> {
-        match self {
-            CutEnding::Done => Ok(()),
-            CutEnding::PastEnd { event } => write_event(err, b"cut-past-end", event),
-            CutEnding::Stopped { event, stop } => write_stop(err, event, stop),
-            CutEnding::Faulted { event, fault } => write_fault(err, event, fault),
-            CutEnding::TooLong { event } => write_event(err, b"out-too-long", event),
-            CutEnding::WriteFailed { event } => write_event(err, b"write-fault", event),
-        }
+        write_ended(self.ended(), err)
     }
 }
