@@ -1,8 +1,9 @@
 """The hunt: batches of experiments, what is known already, and the reduction of what is not."""
 from __future__ import annotations
 
+import contextlib
 import os
-from collections import Counter
+from collections import Counter, defaultdict
 from random import Random
 from typing import Any, Dict, FrozenSet, Iterator, List, NamedTuple, Optional, Sequence, Tuple
 
@@ -10,13 +11,14 @@ from psxgpu.fuzz.conditions import drawing, facts_of, label
 from psxgpu.fuzz.kinds import KEPT, MOST_WORDS, Kind, Store, kind_of
 from psxgpu.fuzz.making import MOST_CELLS, Maker, packed
 from psxgpu.fuzz.nearby import Nearby
-from psxgpu.fuzz.reducing import Found, processor_time, reduce_kind
+from psxgpu.fuzz.reducing import Found, reduce_kind
 from psxgpu.fuzz.rules import Samples
 from psxgpu.output import Content
 from psxgpu.packets.generated import background
 from psxgpu.players.bench import Bench, Experiment, cells_of, how_lost
 from psxgpu.players.looks import LOST, OUTSIDE
 from psxgpu.reduce.features import name_of
+from psxgpu.reduce.probing import processor_time
 
 BATCH, TRIES, SPARED = 48, 8, 0.05      # experiments in a run; tries to make an unknown one; share of known ones
 STRAY, LOOKED_INTO = 0.2, 2             # batches in which dumps are compared; new differences of one batch
@@ -24,6 +26,8 @@ HIDDEN = 0.25                           # batches in which a difference that see
 LARGE = 0.02                            # share of the experiments that may change more than MOST_CELLS
 MOST_TRIED = 3                          # reductions of what cannot be shown alone
 SURE = 12                               # how often a kind is seen until it is seldom made again
+FIRST = 10.0                            # seconds of processor time that each work may take before shares count
+REDUCING, SHARE = 'reducing', 0.5       # reductions, and their share of the time
 Facts = FrozenSet[str]
 Differing = Tuple[Experiment, FrozenSet[str]]       # and how the players differ
 
@@ -45,12 +49,26 @@ class Hunt:
         self.counts: Counter[str] = Counter()
         self.seen: Counter[str] = Counter()             # by kind
         self.tried: Counter[Any] = Counter()
+        self.spent: Dict[str, float] = defaultdict(float)       # seconds, by the work
         self.begin = processor_time()
 
     @property
     def time(self) -> float:
         """Seconds of processor time so far."""
         return round(processor_time() - self.begin, 1)
+
+    @contextlib.contextmanager
+    def spending(self, work: str) -> Iterator[None]:
+        """Counts the processor time of a work."""
+        begin = processor_time()
+        try:
+            yield
+        finally:
+            self.spent[work] += processor_time() - begin
+
+    def may_spend(self, work: str, share: float) -> bool:
+        """Returns whether a work has taken less than its share of the time. What waits for time comes again later."""
+        return self.spent[work] <= max(FIRST, share * self.time)
 
     def explaining(self, name: str, facts: Facts, look: str) -> Optional[str]:
         """Returns the key of the kind that explains a difference."""
@@ -87,7 +105,7 @@ class Hunt:
                 self.samples.add(name_of(one[-1]), facts_of(one), ())
                 self.maker.keep(one)
         news, known = self.parted([new for one, looks in self.confirmed(found) for new in self.taken(one, looks)])
-        for new in self.chosen(news):
+        for new in self.chosen(news) if self.may_spend(REDUCING, SHARE) else ():
             self.look_into(new)
         if known and self.random.random() < HIDDEN:
             self.look_into(self.random.choice(known))
@@ -148,7 +166,8 @@ class Hunt:
         name = name_of(new.experiment[-1])
         if not self.has(name, needs, new.look) and self.tried[name, new.look, needs] < MOST_TRIED:
             self.tried[name, new.look, needs] += 1
-            self.add(new, needs)
+            with self.spending(REDUCING):
+                self.add(new, needs)
 
     def needs(self, one: Experiment, look: str) -> Facts:
         """Returns the facts that an experiment needs in order to differ with a look."""

@@ -21,6 +21,8 @@ from psxgpu.reduce.units import CONTROL, Record
 from psxgpu.stream import GP0, GP1, HEADS, KINDS, READ, STAT, encode
 
 SEQUENCES, MOST_REDUCED = 60, 2
+REDUCING, SHARE = 'reducing sequences', 0.2         # their share of the time
+MOST_SECONDS = 3.0          # of processor time, in which the words of a sequence become simpler
 ALL = 0xFFFFFFFF            # bits
 ENDS: Record = (GP1, 1, (0,))
 CUT, INTERLACED = (0x28, 0x48, 0xA0), 0x08000024     # opcodes that are cut; the mode of 480 lines
@@ -229,8 +231,9 @@ class Reading:
         except ToolError as how:
             for part in (found[:half], found[half:]) if half else ():
                 self.judge(part)
-            if not half:
-                self.keep_lost(found[0], str(how))
+            if not half and hunt.may_spend(REDUCING, SHARE):
+                with hunt.spending(REDUCING):
+                    self.keep_lost(found[0], str(how))
             return
         at = reduced = 0
         for records in found:
@@ -239,7 +242,7 @@ class Reading:
             at += count
             hunt.counts['differ'] += bool(differ)
             for start, bits in differ:
-                if reduced < MOST_REDUCED:
+                if reduced < MOST_REDUCED and hunt.may_spend(REDUCING, SHARE):
                     reduced += self.look_into(start, bits)
 
     def words(self, data: bytes) -> Tuple[Sequence[int], Sequence[int]]:
@@ -306,7 +309,8 @@ class Reading:
         self.tried[new] += 1
         if not new.bits or self.tried[new] > 1:
             return False
-        self.reduce(records, new)
+        with self.hunt.spending(REDUCING):
+            self.reduce(records, new)
         return True
 
     def reduce(self, records: List[Record], new: New) -> None:
@@ -374,7 +378,7 @@ class Reading:
             file.write(data_of([records]))
             file.flush()
             try:
-                with Job(bench.ours, bench.theirs, Wanted(fault, []), bench.seconds, 1) as job:
+                with Job(bench.ours, bench.theirs, Wanted(fault, [], most=MOST_SECONDS), bench.seconds, 1) as job:
                     return job.result(file.name, 'sequence')
             except ToolError:
                 return None

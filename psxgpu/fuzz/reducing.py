@@ -2,7 +2,6 @@
 from __future__ import annotations
 
 from functools import partial
-from os import times
 from typing import Any, Callable, Dict, FrozenSet, Iterable, List, Optional, Sequence, Tuple
 
 from psxgpu.errors import ToolError
@@ -19,6 +18,7 @@ from psxgpu.reduce.batches import BatchProber
 from psxgpu.reduce.faults import DumpsDiffer, Pair
 from psxgpu.reduce.features import FEATURES, name_of
 from psxgpu.reduce.needs import sources_of
+from psxgpu.reduce.probing import processor_time
 from psxgpu.reduce.reducer import Reducer, Units
 from psxgpu.reduce.report import Reduced, files_of, reduced, report_lines
 from psxgpu.reduce.state import Placed, box_cells, state_units
@@ -38,12 +38,6 @@ READING = {'texture', 'tested-mask', 'semi-transparency'}
 Facts = FrozenSet[str]
 Files = Callable[[], List[Content]]     # made only for a kind that is kept
 Found = Tuple[Kind, Files, Experiment]
-
-
-def processor_time() -> float:
-    """Returns the seconds of processor time of this process and of its players."""
-    t = times()
-    return t.user + t.system + t.children_user + t.children_system
 
 
 class KindProber(BatchProber):

@@ -1,6 +1,7 @@
 """The whole way from a flat capture to its reduced one."""
 from __future__ import annotations
 
+import math
 from typing import Callable, List, NamedTuple, Optional, Sequence
 
 from psxgpu.command import ToolError
@@ -8,6 +9,7 @@ from psxgpu.players.beginning import first_bytes
 from psxgpu.players.named import Player, expect_dump
 from psxgpu.reduce.batches import prober_of
 from psxgpu.reduce.faults import BreaksDown, Fault, Pair, WordsDiffer
+from psxgpu.reduce.probing import processor_time
 from psxgpu.reduce.reducer import Reducer
 from psxgpu.reduce.report import Reduced, reduced
 from psxgpu.reduce.search import Found, Search
@@ -19,13 +21,15 @@ MOST_TAIL = 4096            # units that are tried after a state
 
 class Wanted(NamedTuple):
     """What is searched: the fault, classes that are ignored, whether the packet keeps its class, its event and the path
-    of psxgpu_tool if they are given, and the features without any of which the fault is not there."""
+    of psxgpu_tool if they are given, and the features without any of which the fault is not there. `most`: seconds of
+    processor time, after which the capture stays as it is."""
     fault: Fault
     ignore: List[str]
     keep: bool = False
     event: Optional[int] = None
     program: Optional[str] = None
     without: Sequence[str] = ()
+    most: float = math.inf
 
 
 class Job:
@@ -34,6 +38,7 @@ class Job:
     def __init__(self, ours: Player, theirs: Player, wanted: Wanted, seconds: Optional[float] = None,
                  jobs: Optional[int] = None, tell: Callable[[str], None] = lambda text: None) -> None:
         self.prober = prober_of(ours, theirs, wanted.fault, seconds, jobs)
+        self.prober.until = processor_time() + wanted.most
         self.wanted, self.tell = wanted, tell
 
     def __enter__(self) -> Job:

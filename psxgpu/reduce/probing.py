@@ -4,6 +4,7 @@ from __future__ import annotations
 import collections
 import concurrent.futures
 import hashlib
+import math
 import os
 from typing import Callable, Deque, Dict, Iterable, Optional, Tuple, TypeVar
 
@@ -14,9 +15,16 @@ T = TypeVar('T')
 AHEAD = 2       # probes that wait, for each one that runs
 
 
+def processor_time() -> float:
+    """Returns the seconds of processor time of this process and of its players."""
+    t = os.times()
+    return t.user + t.system + t.children_user + t.children_system
+
+
 class Prober:
-    """Two players and a fault. `count` is the number of probes so far. `is_plain`: whether each is a run of its own."""
-    is_plain = True
+    """Two players and a fault. `count` is the number of probes so far. `is_plain`: whether each is a run of its own.
+    `until`: the processor time after which nothing more is probed."""
+    is_plain, until = True, math.inf
 
     def __init__(self, ours: Player, theirs: Player, fault: Fault, seconds: Optional[float] = None,
                  jobs: Optional[int] = None) -> None:
@@ -41,6 +49,8 @@ class Prober:
 
     def first(self, candidates: Iterable[T], bytes_of: Callable[[T], bytes]) -> Optional[T]:
         """Returns the first candidate whose capture shows the fault, or None. Later ones are probed ahead."""
+        if processor_time() > self.until:
+            return None
         waiting: Deque[Tuple[T, concurrent.futures.Future[bool]]] = collections.deque()
         try:
             for candidate in candidates:

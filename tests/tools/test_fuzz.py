@@ -229,6 +229,19 @@ class Hunting(support.InFolder):
         self.assertEqual(again.kinds[key], found)
         self.assertEqual(again.counts()[0]['counts']['captures'], 3)
 
+    def test_shares_of_the_time(self):
+        """Reductions that have had their share of the time wait, and are made later."""
+        store = Store(self.path('waiting'), 'psxgpu fuzz')
+        hunt = Hunt(Bench(player_of(support.PLAYER), wrong.FAULTS['sum_for_difference'], ground_of(1)), store, 1)
+        quad = (0x2AFFFFFF, 0, 20, 20 << 16, 20 << 16 | 20)
+        hunt.batch = lambda: iter([packed([(0xE1000040,), quad])])
+        hunt.spent['reducing'] = 1e6
+        hunt.step()
+        self.assertEqual((store.kinds, hunt.counts['differ']), ({}, 1))
+        hunt.spent.clear()
+        hunt.step()
+        self.assertEqual(len(store.kinds), 1)
+
     def test_other_bytes(self):
         """A player that writes other bytes at the end of a reduction does not end the hunt."""
         quad = (0x2AFFFFFF, 0, 20, 20 << 16, 20 << 16 | 20)
