@@ -3,9 +3,9 @@
     python3 -m proving.unproved COMMAND.. < CAPTURE > OUT
     python3 -m proving.unproved --first-picture CAPTURE OUT
 
-The first form is `make try`. The second writes the picture that `make run` shows before it proves the program. Both
-compile with `rt try`. That build stops at an index out of bounds, an overflow or a bad access. It checks no contract,
-and more than 1 MiB of output is an error.
+The first form is `make try`; the capture may be packed (.gz, .xz, .zst). The second writes the picture that `make run`
+shows before it proves the program. Both compile with `rt try`. That build stops at an index out of bounds, an overflow
+or a bad access. It checks no contract, and more than 1 MiB of output is an error.
 Status: the program's own, or 7 if it gave no answer. With --first-picture 0, or 1 if there is no picture.
 """
 import os
@@ -17,6 +17,7 @@ import time
 from typing import BinaryIO, List, Tuple
 
 from proving.plan import ROOT
+from psxgpu.packing import Damaged, pour, unpacked
 
 CRATE = os.path.join(ROOT, 'crates', 'psxgpu_tool')
 MOST_SECONDS = 600
@@ -71,7 +72,14 @@ def main(words: List[str]) -> int:
     if not words or words[0].startswith('-'):
         sys.exit((__doc__ or '').split('\n\n')[1])
     print(NOT_PROVED, file=sys.stderr, flush=True)
-    status, said = play(words, sys.stdin.buffer, sys.stdout.buffer)
+    try:
+        with unpacked('-', 'the capture') as capture, tempfile.TemporaryFile() as plain:
+            pour(capture, plain)
+            plain.seek(0)
+            status, said = play(words, plain, sys.stdout.buffer)
+    except Damaged as fault:
+        print(fault, file=sys.stderr)
+        return NO_ANSWER
     sys.stderr.write(without_answer(said) if status == NO_ANSWER else of_the_program(said))
     return status
 

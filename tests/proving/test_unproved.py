@@ -1,4 +1,5 @@
 """Tests of `make try` and of the first picture of `make run`. A small `rt` stands in for the kit's."""
+import gzip
 import os
 import shutil
 import subprocess
@@ -70,6 +71,16 @@ class Unproved(unittest.TestCase):
         self.assertEqual(self.make('try', 'CAPTURE=a b.capture', 'COMMAND=pixel 1 2')[:2], (0, b'other'))
         with open(os.path.join(self.kit, 'calls'), encoding='utf-8') as file:
             self.assertEqual([line.split(' -- ')[1] for line in file], ['shot\n', 'pixel 1 2\n'])
+
+    def test_try_unpacks(self) -> None:
+        packed = gzip.compress(b'packed')
+        for name, capture in ('whole.gz', packed), ('cut.gz', packed[:-8]):
+            with open(os.path.join(self.top, name), 'wb') as file:
+                file.write(capture)
+        self.assertEqual(self.make('try', 'CAPTURE=whole.gz')[:2], (0, b'packed'))
+        status, out, said = self.make('try', 'CAPTURE=cut.gz')
+        self.assertEqual((status, out), (2, b''))
+        self.assertIn('the capture: damaged', said)
 
     def test_try_that_fails(self) -> None:
         for said, status, wanted in [

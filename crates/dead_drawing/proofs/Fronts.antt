@@ -19,7 +19,7 @@ use Rattle.gpu_capture.specs.declared.event.Event.{Event}
 use Rattle.gpu_capture.specs.declared.event.Event.TheVariants as event
 use Rattle.gpu_core.specs.Machine.{State, new_item, is_idle}
 use Rattle.prim_draw.specs.Areas.{moved_box}
-use Rattle.prim_draw.specs.Boxes.{LiesIn}
+use Rattle.span_lanes.specs.Figures.Boxes.{LiesInBox}
 use Rattle.dead_drawing.specs.Calm.{IsCalm, IsCalmItem, IsCalmAt}
 use Rattle.dead_drawing.specs.Control.{Control, controlled}
 use Rattle.dead_drawing.specs.OnePacket.{IsDroppable, Holds, Covers, IsCovered}
@@ -39,7 +39,7 @@ at_most a b e = grind (arith, ints)
 
 -- ---- fills
 
-box_lies : (outer inner : Box2) → holds_box outer inner ≡ true → LiesIn outer inner
+box_lies : (outer inner : Box2) → holds_box outer inner ≡ true → LiesInBox outer inner
 unfolding holds_box
 box_lies outer inner e =
     let u = two _ _ e in

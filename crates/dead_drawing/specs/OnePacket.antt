@@ -11,7 +11,7 @@ use Rattle.gpu_capture.specs.declared.event.Event.{Event}
 use Rattle.gpu_capture.specs.declared.event.Event.TheVariants as event
 use Rattle.gpu_core.specs.Machine.{State, new_item}
 use Rattle.prim_draw.specs.Areas.{area_of, moved_box}
-use Rattle.prim_draw.specs.Boxes.{LiesIn}
+use Rattle.span_lanes.specs.Figures.Boxes.{LiesInBox}
 use Rattle.event_play.specs.Alike.{AreAlike, replay_of}
 use Rattle.event_play.specs.Ports.{AreAtPorts}
 use Rattle.event_play.specs.Step.{Machine}
@@ -28,7 +28,7 @@ pub record IsDroppable (words : List ℕ) : Type 0 where
 abbrev pub Holds : Option Box2 → Option Box2 → Type 0
 Holds outer None = Unit {0}
 Holds None (Some inner) = ⊥
-Holds (Some outer) (Some inner) = LiesIn outer inner
+Holds (Some outer) (Some inner) = LiesInBox outer inner
 
 -- this word completes a fill whose area contains a box
 pub record Covers (s : State) (word : ℕ) (area : Option Box2) : Type 0 where

@@ -1,12 +1,11 @@
 -- Operations that are the steps of events.
-use Rattle.std.proofs.Common.{◌≡◌, ◌≤◌, ℕ, ◌+◌, List, [], Option, Ok, Err, refl, ap, sym, subst, ◌∙◌, arith}
+use Rattle.std.proofs.Common.{◌≡◌, ◌≤◌, ℕ, ◌+◌, List, Option, None, Ok, Err, refl, ap, sym, subst, ◌∙◌, arith}
 use Rattle.gpu_capture.specs.declared.event.Event.{Event}
 use Rattle.gpu_core.specs.Kept.{kept_of}
 use Rattle.gpu_core.specs.Machine.{State}
 use Rattle.event_play.specs.Does.{Does}
 use Rattle.event_play.specs.Fed.{fed_notes}
-use Rattle.event_play.specs.Feeding.{in_event}
-use Rattle.event_play.specs.Lines.{lines_cost}
+use Rattle.event_play.specs.Feeding.{in_event, looks_in}
 use Rattle.event_play.specs.RigState.{RigState, Stands, machine_of}
 use Rattle.event_play.specs.Step.{Machine, Stepped, asked_words, event_step, event_cost, event_words, done}
 use Rattle.event_play.specs.Stepping.{HasStepped, numbered}
@@ -14,7 +13,6 @@ use Rattle.event_play.specs.Streams.{Outlets}
 use Rattle.event_play.specs.Changes.{event_changes}
 use Rattle.event_play.specs.Operation.{operation_of}
 use Rattle.event_play.specs.declared.ending.Mode.{Mode}
-use Rattle.event_play.specs.declared.ending.Mode.TheVariants.{Vram}
 use Rattle.event_play.specs.declared.fault.EventFault.{EventFault}
 use Rattle.event_play.specs.declared.operation.Operation.{Operation}
 use Rattle.event_play.specs.declared.operation.Operation.TheVariants as operation
@@ -47,17 +45,17 @@ notes_are s number (operation.Clear madr n) = refl
 notes_are s number (operation.Begin next) = refl
 
 -- An event was played with `at` store steps; the other steps are those of the lines of its words.
-pub record HasDone (mode : Mode) (s : Machine) (number : ℕ) (event : Event) (shown : Option ℕ) (before now : Outlets)
-    (rig : RigState) : Type 0 where
+pub record HasDone (mode : Option Mode) (s : Machine) (number : ℕ) (event : Event) (shown : Option ℕ)
+    (before now : Outlets) (rig : RigState) : Type 0 where
   pub at : ℕ
   pub step : HasStepped s (numbered number event) shown before (play_state (record now { steps = at }) rig)
   pub asked_notes : step.notes ≡ fed_notes s.gpu number (event_words s event)
-  pub spent : now.steps ≤ at + lines_cost mode [] (event_changes s number event)
+  pub spent : now.steps ≤ at + looks_in mode (event_changes s number event)
 
--- In a mode without lines, all store steps are those of the event.
+-- Without lines, all store steps are those of the event.
 pub only_stepped : (s : Machine) (number : ℕ) (event : Event) (shown : Option ℕ) (before now : Outlets)
     (rig : RigState)
-    → HasDone Vram s number event shown before now rig
+    → HasDone None s number event shown before now rig
     → HasStepped s (numbered number event) shown before (play_state now rig)
 only_stepped s number event shown before now rig did = record {
   machine = did.step.machine;
@@ -68,7 +66,7 @@ only_stepped s number event shown before now rig did = record {
   cost = let c = did.step.cost in let spent = did.spent in omega (arith, c, spent);
 }
 
-module _ (mode : Mode) (was mid rig : RigState) (number counted : ℕ) (event : Event) (asked : Operation)
+module _ (mode : Option Mode) (was mid rig : RigState) (number counted : ℕ) (event : Event) (asked : Operation)
     (shown : Option ℕ)
     (before now : Outlets)
     (is : Ok asked ≡ operation_of was.ram was.running event) (same : mid ≡ rig)

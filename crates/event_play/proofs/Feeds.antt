@@ -13,15 +13,15 @@ use Rattle.gpu_taps.specs.Tally.{Reading}
 use Rattle.px_num.specs.declared.shape.Cell.{Cell}
 use Rattle.packet_text.specs.Line.{listed}
 use Rattle.event_play.specs.Fed.{fed, fed_notes, fed_cost}
-use Rattle.event_play.specs.Feeding.{Feeds, StopsFeeding, FeedsWords, drawing, fed_lines, fed_lines_cost, in_event}
-use Rattle.event_play.specs.Lines.{IsBuffered, lines_while, lines_cost}
+use Rattle.event_play.specs.Feeding.{BuffersLines, Feeds, StopsFeeding, FeedsWords, drawing, fed_lines, fed_lines_cost}
+use Rattle.event_play.specs.Feeding.{in_event, lines_in, looks_in}
 use Rattle.event_play.specs.Streams.{Outlets, sink_of}
 use Rattle.event_play.specs.Changes.{Change, word_change, fed_changes, seen_cell, cell_change_line}
 use Rattle.event_play.specs.Told.{told_notes}
 use Rattle.event_play.specs.declared.ending.Mode.{Mode}
 use Rattle.event_play.specs.declared.ending.Mode.TheVariants.{Vram, Shot, Report, Frames, Sums, Pixel}
 use Rattle.event_play.specs.declared.ending.Mode.TheVariants.{List as Listing, Play as Words}
-use Rattle.event_play.proofs.Grows.{lines-none, lines-append, lines_cost-append}
+use Rattle.event_play.proofs.Grows.{lines_in-none, lines_in-append, looks_in-append}
 use Rattle.event_play.proofs.Putting.{puts_none}
 
 -- ---- two lists of words, one after the other
@@ -51,23 +51,23 @@ fed_changes-append s number [] ys = refl
 fed_changes-append s number (x ∷ xs) ys =
     ap (λ changes. word_change s number x ∷ changes) (fed_changes-append (after_gp0 s x) number xs ys)
 
-pub fed_lines-append : (mode : Mode) (s : State) (number : ℕ) (xs ys : List ℕ)
+pub fed_lines-append : (mode : Option Mode) (s : State) (number : ℕ) (xs ys : List ℕ)
     → fed_lines mode s number (xs ++ ys) ≡ fed_lines mode s number xs ++ fed_lines mode (fed s xs) number ys
 fed_lines-append mode s number xs ys =
     let notes = fed_notes s number xs in
     let others = fed_notes (fed s xs) number ys in
-    ap (λ notes. lines_while mode notes (fed_changes s number (xs ++ ys))) (fed_notes-append s number xs ys)
-    ∙ ap (lines_while mode (notes ++ others)) (fed_changes-append s number xs ys)
-    ∙ lines-append mode [] [] [] [] notes others (fed_changes s number xs) (fed_changes (fed s xs) number ys)
+    ap (λ notes. lines_in mode notes (fed_changes s number (xs ++ ys))) (fed_notes-append s number xs ys)
+    ∙ ap (lines_in mode (notes ++ others)) (fed_changes-append s number xs ys)
+    ∙ lines_in-append mode notes others (fed_changes s number xs) (fed_changes (fed s xs) number ys)
 
-pub fed_looks-append : (mode : Mode) (s : State) (number : ℕ) (xs ys : List ℕ)
-    → lines_cost mode [] (fed_changes s number (xs ++ ys))
-    ≡ lines_cost mode [] (fed_changes s number xs) + lines_cost mode [] (fed_changes (fed s xs) number ys)
+pub fed_looks-append : (mode : Option Mode) (s : State) (number : ℕ) (xs ys : List ℕ)
+    → looks_in mode (fed_changes s number (xs ++ ys))
+    ≡ looks_in mode (fed_changes s number xs) + looks_in mode (fed_changes (fed s xs) number ys)
 fed_looks-append mode s number xs ys =
-    ap (lines_cost mode []) (fed_changes-append s number xs ys)
-    ∙ lines_cost-append mode [] [] (fed_changes s number xs) (fed_changes (fed s xs) number ys)
+    ap (looks_in mode) (fed_changes-append s number xs ys)
+    ∙ looks_in-append mode (fed_changes s number xs) (fed_changes (fed s xs) number ys)
 
-pub fed_lines_cost-append : (mode : Mode) (s : State) (number : ℕ) (xs ys : List ℕ)
+pub fed_lines_cost-append : (mode : Option Mode) (s : State) (number : ℕ) (xs ys : List ℕ)
     → fed_lines_cost mode s number (xs ++ ys)
     ≡ fed_lines_cost mode s number xs + fed_lines_cost mode (fed s xs) number ys
 fed_lines_cost-append mode s number xs ys =
@@ -75,7 +75,7 @@ fed_lines_cost-append mode s number xs ys =
 
 -- ---- no word, and one
 
-pub feeds_none : (mode : Mode) (s : State) (number : ℕ) (at : Outlets) (gpu : Kept) → kept_of s ≡ gpu
+pub feeds_none : (mode : Option Mode) (s : State) (number : ℕ) (at : Outlets) (gpu : Kept) → kept_of s ≡ gpu
     → Feeds (in_event number mode) s [] at (drawing at gpu)
 feeds_none mode s number at gpu stands = record {
   stands = stands;
@@ -89,7 +89,7 @@ told_one None readings = refl
 told_one (Some note) readings = refl
 
 -- a word was fed, and the line of its note was added or could not be written
-module _ (mode : Mode) (s : State) (number word : ℕ) (note : Option Note) (before now : Outlets) (gpu : Kept)
+module _ (mode : Option Mode) (s : State) (number word : ℕ) (note : Option Note) (before now : Outlets) (gpu : Kept)
     (stands : kept_of (after_gp0 s word) ≡ gpu) (noted : gp0_note s number word ≡ note)
     (told : now.heard ≡ told_option note before.heard) (cost : now.steps ≤ before.steps + gp0_cost s word) where
   word_notes : fed_notes s number (word ∷ []) ≡ option_to_list note ++ []
@@ -115,27 +115,28 @@ module _ (mode : Mode) (s : State) (number word : ℕ) (note : Option Note) (bef
 
 -- the line of its note
 pub word_lines : (s : State) (number word : ℕ) (note : Option Note) → gp0_note s number word ≡ note
-    → flat_map listed (option_to_list note) ≡ fed_lines Listing s number (word ∷ [])
+    → flat_map listed (option_to_list note) ≡ fed_lines (Some Listing) s number (word ∷ [])
 word_lines s number word note noted =
     let notes : fed_notes s number (word ∷ []) ≡ option_to_list note ++ [] = ap (λ n. option_to_list n ++ []) noted in
     sym (rw (notes, append-nil) refl)
 
 -- ---- no line
 
-while_quiet : (mode : Mode) (notes : List Note) (changes : List Change) → (IsBuffered mode → ⊥)
-    → lines_while mode notes changes ≡ []
-while_quiet Listing notes changes not = absurd (not tt)
-while_quiet (Pixel cell) notes changes not = absurd (not tt)
-while_quiet Words notes changes not = refl
-while_quiet Vram notes changes not = refl
-while_quiet Shot notes changes not = refl
-while_quiet Report notes changes not = refl
-while_quiet (Frames at) notes changes not = refl
-while_quiet (Sums at) notes changes not = refl
+while_quiet : (mode : Option Mode) (notes : List Note) (changes : List Change) → (BuffersLines mode → ⊥)
+    → lines_in mode notes changes ≡ []
+while_quiet None notes changes not = refl
+while_quiet (Some Listing) notes changes not = absurd (not tt)
+while_quiet (Some (Pixel cell)) notes changes not = absurd (not tt)
+while_quiet (Some Words) notes changes not = refl
+while_quiet (Some Vram) notes changes not = refl
+while_quiet (Some Shot) notes changes not = refl
+while_quiet (Some Report) notes changes not = refl
+while_quiet (Some (Frames at)) notes changes not = refl
+while_quiet (Some (Sums at)) notes changes not = refl
 
 -- a word was fed that has no line
-pub quiet_feeds : (mode : Mode) (number word : ℕ) (note : Option Note) (before now : Outlets) (was gpu : Kept)
-    → (IsBuffered mode → ⊥)
+pub quiet_feeds : (mode : Option Mode) (number word : ℕ) (note : Option Note) (before now : Outlets) (was gpu : Kept)
+    → (BuffersLines mode → ⊥)
     → now.held ≡ before.held → now.faults ≡ before.faults → now.buffered ≡ before.buffered
     → ((s : State) → kept_of s ≡ was → kept_of (after_gp0 s word) ≡ gpu)
     → ((s : State) → kept_of s ≡ was → gp0_note s number word ≡ note)
@@ -158,7 +159,7 @@ quiet_feeds mode number word note before now was gpu not held faults buffered st
 pub watched_lines : (cell : Cell) (s : State) (number word : ℕ) (item : Option Note) (was gpu : Kept) (old new : ℕ)
     → kept_of s ≡ was → kept_of (after_gp0 s word) ≡ gpu → gp0_note s number word ≡ item
     → old ≡ seen_cell cell was.parts.m → new ≡ seen_cell cell gpu.parts.m
-    → cell_change_line item old new ≡ fed_lines (Pixel cell) s number (word ∷ [])
+    → cell_change_line item old new ≡ fed_lines (Some (Pixel cell)) s number (word ∷ [])
 watched_lines cell s number word item was gpu old new is stands noted saw sees =
     let first : seen_cell cell s.parts.m ≡ old = ap (λ (k : Kept). seen_cell cell k.parts.m) is ∙ sym saw in
     let last : seen_cell cell (after_gp0 s word).parts.m
@@ -173,14 +174,14 @@ module _ (cell : Cell) (s : State) (number word : ℕ) (note : Option Note) (gpu
   watched_notes : fed_notes s number (word ∷ []) ≡ option_to_list note ++ []
   watched_notes = ap (λ n. option_to_list n ++ []) noted
 
-  pub watched_feeds : Feeds (in_event number (Pixel cell)) s (word ∷ []) before (drawing now gpu)
+  pub watched_feeds : Feeds (in_event number (Some (Pixel cell))) s (word ∷ []) before (drawing now gpu)
   watched_feeds = record {
     stands = stands;
     heard = told ∙ told_one note before.heard ∙ ap (λ ns. told_notes ns before.heard) (sym watched_notes);
     cost = omega (arith, cost);
   }
 
-  pub watched_stops : StopsFeeding (in_event number (Pixel cell)) s (word ∷ []) before (drawing now gpu)
+  pub watched_stops : StopsFeeding (in_event number (Some (Pixel cell))) s (word ∷ []) before (drawing now gpu)
   watched_stops = record {
     before = [];
     word = word;
@@ -193,7 +194,7 @@ module _ (cell : Cell) (s : State) (number word : ℕ) (note : Option Note) (gpu
 
 -- ---- in parts
 
-module _ (mode : Mode) (s : State) (number : ℕ) (xs ys : List ℕ) (before mid now : Outlets) (was gpu : Kept)
+module _ (mode : Option Mode) (s : State) (number : ℕ) (xs ys : List ℕ) (before mid now : Outlets) (was gpu : Kept)
     (first : Feeds (in_event number mode) s xs before (drawing mid was)) where
   pub feeds_on : Feeds (in_event number mode) (fed s xs) ys mid (drawing now gpu)
       → Feeds (in_event number mode) s (xs ++ ys) before (drawing now gpu)
@@ -225,8 +226,8 @@ module _ (mode : Mode) (s : State) (number : ℕ) (xs ys : List ℕ) (before mid
       }
 
 -- If a line could not be written, the words after it do not matter.
-pub stops_early : (mode : Mode) (s : State) (number : ℕ) (words xs ys : List ℕ) (before now : Outlets) (gpu : Kept)
-    → words ≡ xs ++ ys
+pub stops_early : (mode : Option Mode) (s : State) (number : ℕ) (words xs ys : List ℕ) (before now : Outlets)
+    (gpu : Kept) → words ≡ xs ++ ys
     → StopsFeeding (in_event number mode) s xs before (drawing now gpu)
     → StopsFeeding (in_event number mode) s words before (drawing now gpu)
 stops_early mode s number words xs ys before now gpu are stop = record {
@@ -239,7 +240,7 @@ stops_early mode s number words xs ys before now gpu are stop = record {
   cost = stop.cost;
 }
 
-pub feeds_same : (mode : Mode) (s : State) (number : ℕ) (words xs : List ℕ) (before now : Outlets) (gpu : Kept)
+pub feeds_same : (mode : Option Mode) (s : State) (number : ℕ) (words xs : List ℕ) (before now : Outlets) (gpu : Kept)
     → words ≡ xs
     → Feeds (in_event number mode) s xs before (drawing now gpu)
     → Feeds (in_event number mode) s words before (drawing now gpu)
@@ -250,24 +251,25 @@ feeds_same mode s number words xs before now gpu are feeds =
 -- ---- calls that feed words, for every GPU state with the essential state before them
 
 -- these words were fed since the essential state `was` of the GPU, and their lines added
-pub record AreFed (mode : Mode) (number : ℕ) (words : List ℕ) (before now : Outlets) (was gpu : Kept) : Type 0 where
+pub record AreFed (mode : Option Mode) (number : ℕ) (words : List ℕ) (before now : Outlets) (was gpu : Kept)
+    : Type 0 where
   pub feeds : (s : State) → kept_of s ≡ was → Feeds (in_event number mode) s words before (drawing now gpu)
   pub put : (s : State) → kept_of s ≡ was → HasPut (piece number (fed_lines mode s number words))
       (sink_of before) (sink_of now)
-  pub kept : IsBuffered mode ⊎ (now.buffered ≡ before.buffered)
+  pub kept : BuffersLines mode ⊎ (now.buffered ≡ before.buffered)
   pub faults : before.faults ≤ now.faults
 
-pub fed_none : (mode : Mode) (number : ℕ) (at : Outlets) (gpu : Kept) → AreFed mode number [] at at gpu gpu
+pub fed_none : (mode : Option Mode) (number : ℕ) (at : Outlets) (gpu : Kept) → AreFed mode number [] at at gpu gpu
 fed_none mode number at gpu = record {
   feeds = λ s is. feeds_none mode s number at gpu is;
   put = λ s is.
-      rw (lines-none mode) (put_none number (sink_of at));
+      rw (lines_in-none mode) (put_none number (sink_of at));
   kept = inr refl;
   faults = omega arith;
 }
 
 -- all words were fed
-pub words_fed : {Value : Type 0} (mode : Mode) (number : ℕ) (words xs : List ℕ) (before now : Outlets)
+pub words_fed : {Value : Type 0} (mode : Option Mode) (number : ℕ) (words xs : List ℕ) (before now : Outlets)
     (was gpu : Kept) (v : Value)
     → words ≡ xs → AreFed mode number xs before now was gpu
     → FeedsWords {Value = Value} (in_event number mode) words (drawing before was) (drawing now gpu) (Ok v)
@@ -283,13 +285,13 @@ words_fed mode number words xs before now was gpu v are all = record {
   faults = all.faults;
 }
 
-kept_on : (mode : Mode) (before mid now : List Piece) → IsBuffered mode ⊎ (mid ≡ before)
-    → IsBuffered mode ⊎ (now ≡ mid) → IsBuffered mode ⊎ (now ≡ before)
+kept_on : (mode : Option Mode) (before mid now : List Piece) → BuffersLines mode ⊎ (mid ≡ before)
+    → BuffersLines mode ⊎ (now ≡ mid) → BuffersLines mode ⊎ (now ≡ before)
 kept_on mode before mid now (inl is) next = inl is
 kept_on mode before mid now (inr same) (inl is) = inl is
 kept_on mode before mid now (inr same) (inr next) = inr (next ∙ same)
 
-module _ {Value : Type 0} (mode : Mode) (number : ℕ) (xs ys : List ℕ) (before mid now : Outlets)
+module _ {Value : Type 0} (mode : Option Mode) (number : ℕ) (xs ys : List ℕ) (before mid now : Outlets)
     (was at gpu : Kept)
     (first : AreFed mode number xs before mid was at) where
   -- more of them were fed

@@ -1,6 +1,6 @@
 -- What was written, noted and spent only grows.
-use Rattle.std.proofs.Common.{◌≡◌, ◌≤◌, ℕ, ◌+◌, ◌++◌, List, [], ◌∷◌, Option, Result, Ok, Err, option_to_list, refl, ap}
-use Rattle.std.proofs.Common.{◌∙◌, append_assoc, arith}
+use Rattle.std.proofs.Common.{◌≡◌, ◌≤◌, ℕ, ◌+◌, ◌++◌, List, [], ◌∷◌, Option, None, Some, Result, Ok, Err}
+use Rattle.std.proofs.Common.{option_to_list, refl, ap, ◌∙◌, append_assoc, arith}
 use Rattle.std.proofs.lemmas.Grind.{flat_map-append}
 use Rattle.gp0_packets.specs.declared.note.Note.{Note}
 use Rattle.gpu_capture.specs.Capture.{Captured}
@@ -8,6 +8,7 @@ use Rattle.gpu_capture.specs.declared.event.Event.{Event}
 use Rattle.gpu_capture.specs.declared.event.Stop.{Stop}
 use Rattle.packet_text.specs.Line.{word_line, listed}
 use Rattle.gpu_taps.specs.Tally.{Reading}
+use Rattle.event_play.specs.Feeding.{lines_in, looks_in}
 use Rattle.event_play.specs.Frames.{Frame, frames_after, picture_at, sum_at, cost_at, frames_cost}
 use Rattle.event_play.specs.Lines.{lines_for, lines_cost}
 use Rattle.event_play.specs.Out.{lines_of, replay_cost, finals, finals_cost, out_bytes, out_cost}
@@ -49,6 +50,17 @@ lines-append Vram shown more frames after notes others changes later = refl
 lines-append Shot shown more frames after notes others changes later = refl
 lines-append Report shown more frames after notes others changes later = refl
 
+-- the same for lines of words
+pub lines_in-none : (mode : Option Mode) → lines_in mode [] [] ≡ []
+lines_in-none None = refl
+lines_in-none (Some mode) = lines-none mode
+
+pub lines_in-append : (mode : Option Mode) (notes others : List Note) (changes later : List Change)
+    → lines_in mode (notes ++ others) (changes ++ later) ≡ lines_in mode notes changes ++ lines_in mode others later
+lines_in-append None notes others changes later = refl
+lines_in-append (Some mode) notes others changes later =
+    lines-append mode [] [] [] [] notes others changes later
+
 frames_cost-append : (at : FrameTrigger) (frames after : List Frame)
     → frames_cost at (frames ++ after) ≡ frames_cost at frames + frames_cost at after
 frames_cost-append at [] after = omega arith
@@ -84,6 +96,11 @@ lines_cost-append (Pixel cell) frames after changes later = looks_cost-append ch
 lines_cost-append Vram frames after changes later = refl
 lines_cost-append Shot frames after changes later = refl
 lines_cost-append Report frames after changes later = refl
+
+pub looks_in-append : (mode : Option Mode) (changes later : List Change)
+    → looks_in mode (changes ++ later) ≡ looks_in mode changes + looks_in mode later
+looks_in-append None changes later = refl
+looks_in-append (Some mode) changes later = lines_cost-append mode [] [] changes later
 
 -- ---- the replay with one more event
 

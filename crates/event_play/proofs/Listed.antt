@@ -189,7 +189,7 @@ word_pieces s event word = item_pieces s.parts.regs event (new_item s.words word
 
 -- the line of its note is one of its event
 pub line_pieces : (s : State) (event word : ℕ) (note : Option Note) → gp0_note s event word ≡ note
-    → ArePieces event (fed_lines Listing s event (word ∷ [])) (listed_pieces (option_to_list note))
+    → ArePieces event (fed_lines (Some Listing) s event (word ∷ [])) (listed_pieces (option_to_list note))
 line_pieces s event word note noted =
     rw (← word_lines s event word note noted, ← noted) (word_pieces s event word)
 

@@ -15,7 +15,7 @@ use Rattle.event_play.specs.declared.ending.Mode.{Mode}
 use Rattle.event_play.specs.declared.operation.Operation.{Operation}
 use Rattle.event_play.specs.declared.operation.Operation.TheVariants as operation
 use Rattle.event_play.proofs.Events.{notes_are}
-use Rattle.event_play.proofs.Grows.{lines-none}
+use Rattle.event_play.proofs.Grows.{lines_in-none}
 use Rattle.event_play.proofs.Putting.{puts_none}
 
 no_words : (ram : List ℕ) (asked : Operation) → FeedsNoWord asked → asked_words ram (Ok asked) ≡ []
@@ -34,8 +34,8 @@ no_notes : (s : Machine) (number : ℕ) (asked : Operation) → FeedsNoWord aske
 no_notes s number asked quiet =
     notes_are s number asked ∙ ap (fed_notes s.gpu number) (no_words s.ram asked quiet)
 
-module _ (mode : Mode) (number : ℕ) (asked : Operation) (was rig : RigState) (before now : Outlets) (shown : Option ℕ)
-    (quiet : FeedsNoWord asked) (held : now.held ≡ before.held) (faults : now.faults ≡ before.faults)
+module _ (mode : Option Mode) (number : ℕ) (asked : Operation) (was rig : RigState) (before now : Outlets)
+    (shown : Option ℕ) (quiet : FeedsNoWord asked) (held : now.held ≡ before.held) (faults : now.faults ≡ before.faults)
     (buffered : now.buffered ≡ before.buffered) where
   -- it is performed whole
   pub quiet_performs : now.heard ≡ before.heard
@@ -67,4 +67,4 @@ module _ (mode : Mode) (number : ℕ) (asked : Operation) (was rig : RigState) (
   quiet_puts = λ s is.
       let m : Machine = machine_of was s in
       puts_none number (fed_lines mode m.gpu number (asked_words m.ram (Ok asked))) (sink_of before) (sink_of now)
-      shown (ap (fed_lines mode m.gpu number) (no_words m.ram asked quiet) ∙ lines-none mode) held faults buffered
+      shown (ap (fed_lines mode m.gpu number) (no_words m.ram asked quiet) ∙ lines_in-none mode) held faults buffered

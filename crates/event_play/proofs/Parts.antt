@@ -1,5 +1,5 @@
 -- Events of which only the first words were fed.
-use Rattle.std.proofs.Common.{◌≡◌, ◌≤◌, ℕ, ◌+◌, ◌++◌, List, [], ◌∷◌, None, Result, Ok, refl, ap, sym}
+use Rattle.std.proofs.Common.{◌≡◌, ◌≤◌, ℕ, ◌+◌, ◌++◌, List, [], ◌∷◌, None, Some, Result, Ok, refl, ap, sym}
 use Rattle.std.proofs.Common.{◌∙◌, append_assoc, arith}
 use Rattle.gpu_capture.specs.declared.event.Event.{Event}
 use Rattle.gpu_capture.specs.declared.event.Event.TheVariants as event
@@ -65,12 +65,12 @@ no_frames s other number parts before word after are = refl
 pub part_cost : (mode : Mode) (s : State) (number : ℕ) (before : List ℕ) (word : ℕ) (after : List ℕ)
     (all steps_before steps_now : ℕ)
     → all ≡ fed_cost s (before ++ word ∷ after)
-    → steps_now ≤ steps_before + fed_lines_cost mode s number (before ++ word ∷ [])
+    → steps_now ≤ steps_before + fed_lines_cost (Some mode) s number (before ++ word ∷ [])
     → steps_now ≤ steps_before + all + lines_cost mode [] (fed_changes s number (before ++ word ∷ after))
 part_cost mode s number before word after all steps_before steps_now is within =
     let first = before ++ word ∷ [] in
     let whole : first ++ after ≡ before ++ word ∷ after = append_assoc before (word ∷ []) after in
     let cost = sym (fed_cost-append s first after) ∙ ap (fed_cost s) whole in
-    let looks = sym (fed_looks-append mode s number first after)
+    let looks = sym (fed_looks-append (Some mode) s number first after)
     ∙ ap (λ words. lines_cost mode [] (fed_changes s number words)) whole in
     omega (arith, is, within, cost, looks)

@@ -1,6 +1,6 @@
 -- Events that are played while their output is written.
-use Rattle.std.proofs.Common.{◌≡◌, ◌≤◌, ◌⊎◌, inl, inr, ◌+◌, ℕ, List, [], ◌∷◌, ◌++◌, Option, None, Ok, option_to_list}
-use Rattle.std.proofs.Common.{refl, ap, subst, ◌∙◌, append-nil, sym, arith}
+use Rattle.std.proofs.Common.{◌≡◌, ◌≤◌, ◌⊎◌, inl, inr, ◌+◌, ℕ, List, [], ◌∷◌, ◌++◌, Option, None, Some, Ok}
+use Rattle.std.proofs.Common.{option_to_list, refl, ap, subst, ◌∙◌, append-nil, sym, arith}
 use Rattle.dev_io.specs.Device.{appended, AppendsPart}
 use Rattle.gathered_out.specs.Pieces.{Piece, piece}
 use Rattle.dev_io.proofs.Appended.{appended-nil}
@@ -91,10 +91,10 @@ module _ (mode : Mode) (was mid rig : RigState) (t : Replay) (counted : ℕ) (ev
     (is : Ok asked ≡ operation_of was.ram was.running event) (same : mid ≡ rig) (stands : StandsFor was t)
     (number : counted ≡ next_number t.played)
     (does : (s : State) → kept_of s ≡ was.gpu → (shown ≡ (done (machine_of was s) counted asked).shown)
-    × Does (in_event counted mode) (machine_of was s) asked before (play_state now rig))
+    × Does (in_event counted (Some mode)) (machine_of was s) asked before (play_state now rig))
     (put : (s : State) → kept_of s ≡ was.gpu
-    → IsPut (operation_lines (in_event counted mode) (machine_of was s) asked) (holding before.held before.buffered)
-    (holding now.held now.buffered))
+    → IsPut (operation_lines (in_event counted (Some mode)) (machine_of was s) asked)
+    (holding before.held before.buffered) (holding now.held now.buffered))
     (kept : IsBuffered mode ⊎ (now.buffered ≡ before.buffered)) (free : MayBuffer mode before.buffered) where
   -- after the output of the event was written
   abbrev written : Outlets
@@ -117,8 +117,8 @@ module _ (mode : Mode) (was mid rig : RigState) (t : Replay) (counted : ℕ) (ev
     cost = step.cost;
   }
 
-  did : HasDone mode t.state counted event shown before now counts
-  did = has_done mode was mid rig counted counted event asked shown before now is same does t.state stands.state
+  did : HasDone (Some mode) t.state counted event shown before now counts
+  did = has_done (Some mode) was mid rig counted counted event asked shown before now is same does t.state stands.state
 
   -- the frames after the event, by the rig and by the machine after it
   abbrev frames : List Frame
@@ -153,7 +153,7 @@ module _ (mode : Mode) (was mid rig : RigState) (t : Replay) (counted : ℕ) (ev
       (holding now.held now.buffered)
   words_put =
       put_at counted counted _ _ (holding before.held before.buffered) (holding now.held now.buffered) refl
-      (ap (fed_lines mode t.state.gpu counted) asked_are
+      (ap (fed_lines (Some mode) t.state.gpu counted) asked_are
       ∙ ap (λ notes. lines_while mode notes changes) (sym did.asked_notes))
       (put t.state.gpu stands.state.gpu)
 
@@ -212,25 +212,25 @@ module _ (mode : Mode) (was mid rig : RigState) (t : Replay) (counted : ℕ) (ev
 pub feeds_part : (mode : Mode) (was rig : RigState) (t : Replay) (counted : ℕ) (event : Event) (asked : Operation)
     (before now : Outlets) (lacking : ℕ) → Ok asked ≡ operation_of was.ram was.running event → StandsFor was t
     → counted ≡ next_number t.played → IsBuffered mode
-    → BreaksPut (operation_lines (in_event counted mode) (machine_of was t.state.gpu) asked)
+    → BreaksPut (operation_lines (in_event counted (Some mode)) (machine_of was t.state.gpu) asked)
     (holding before.held before.buffered) now.held lacking
-    → Stops (in_event counted mode) (machine_of was t.state.gpu) asked before (play_state now rig)
+    → Stops (in_event counted (Some mode)) (machine_of was t.state.gpu) asked before (play_state now rig)
     → rig.played ≡ was.played
     → FeedsPart mode (next_event t event) before (play_state now rig) lacking
 feeds_part mode was rig t counted event asked before now lacking is stands number buffers breaks stops played =
     let asked_are : asked_words was.ram (Ok asked) ≡ event_words t.state event =
     rw (stands.state.ram, stands.state.running, ← is) refl in
     let now_at = drawing now rig.gpu in
-    let P : ℕ → Type 0 = λ n. StopsFeeding (in_event n mode) t.state.gpu (asked_words was.ram (Ok asked)) before
+    let P : ℕ → Type 0 = λ n. StopsFeeding (in_event n (Some mode)) t.state.gpu (asked_words was.ram (Ok asked)) before
     now_at in
-    let Q : List ℕ → Type 0 = λ words. StopsFeeding (in_event (next_number t.played) mode) t.state.gpu words before
-    now_at in
+    let Q : List ℕ → Type 0 = λ words. StopsFeeding (in_event (next_number t.played) (Some mode)) t.state.gpu words
+    before now_at in
     record {
       buffers = buffers;
       breaks = breaks_at counted (next_number t.played) _ _ (holding before.held before.buffered) now.held lacking
           number
-          (ap (λ n. fed_lines mode t.state.gpu n (asked_words was.ram (Ok asked))) number
-          ∙ ap (fed_lines mode t.state.gpu (next_number t.played)) asked_are)
+          (ap (λ n. fed_lines (Some mode) t.state.gpu n (asked_words was.ram (Ok asked))) number
+          ∙ ap (fed_lines (Some mode) t.state.gpu (next_number t.played)) asked_are)
           breaks;
       feeding = subst Q asked_are (subst P number stops.feeding);
       ram = stands.state.ram ∙ stops.ram;
@@ -248,9 +248,9 @@ module _ (mode : Mode) (was : RigState) (counted word : ℕ) (before now : Outle
   abbrev pub fed_now : PlayState
   fed_now = play_state now (record was { gpu = gpu })
 
-  pub word_done : Feeds (in_event counted mode) s (word ∷ []) before (drawing now gpu)
+  pub word_done : Feeds (in_event counted (Some mode)) s (word ∷ []) before (drawing now gpu)
       → (None ≡ (done (machine_of was s) counted (operation.Feed (One word) was.running)).shown)
-      × Does (in_event counted mode) (machine_of was s) (operation.Feed (One word) was.running) before fed_now
+      × Does (in_event counted (Some mode)) (machine_of was s) (operation.Feed (One word) was.running) before fed_now
   word_done feeds = (
     refl,
     record {

@@ -1,5 +1,5 @@
 -- Playing a capture, event by event.
-use Rattle.std.proofs.Common.{◌≡◌, ◌≤◌, inl, inr, ℕ, ◌+◌, ◌++◌, List, [], ◌∷◌, Option, None, Ok}
+use Rattle.std.proofs.Common.{◌≡◌, ◌≤◌, inl, inr, ℕ, ◌+◌, ◌++◌, List, [], ◌∷◌, Option, None, Some, Ok}
 use Rattle.std.proofs.Common.{option_to_list, refl, ap, sym, subst, ◌∙◌, append_assoc, arith}
 use Rattle.std.proofs.Common.{length, length-append}
 use Rattle.dev_io.specs.Device.{AppendsPart}
@@ -323,7 +323,7 @@ module _ (mode : Mode) (script : List ℕ → Script) (before : Streams) (left :
         let next = replay_on t event feeds.machine None (fed_notes t.state.gpu n words) in
         let is = after-event t event feeds.machine None (fed_notes t.state.gpu n words) feeds.is in
         let says = λ (rest : List ℕ). reached.says.says rest ∙ goes_on t next event (capture_from p rest) is in
-        let due = fed_lines mode t.state.gpu n (event_words t.state event) in
+        let due = fed_lines (Some mode) t.state.gpu n (event_words t.state event) in
         let quiet = no_frames t.state event n feeds.machine.gpu.parts stop.before stop.word stop.after stop.is in
         let lines : lines_of mode next ≡ lines_of mode t ++ due =
         lines_more mode t event feeds.machine None (fed_notes t.state.gpu n words)

@@ -1,19 +1,17 @@
 -- An operation that is performed while lines of its words are added.
-use Rattle.std.specs.Prelude.{◌≡◌, ◌≤◌, ◌⊎◌, ℕ, ◌+◌, List, [], Option, Result, Ok, IfOk, OnErr}
+use Rattle.std.specs.Prelude.{◌≡◌, ◌≤◌, ◌⊎◌, ℕ, ◌+◌, List, Option, Result, Ok, IfOk, OnErr}
 use Rattle.dev_io.specs.Device.{Rose}
 use Rattle.gathered_out.specs.Pieces.{Piece}
 use Rattle.gathered_out.specs.Puts.{Puts}
 use Rattle.gpu_core.specs.Kept.{kept_of}
 use Rattle.gpu_core.specs.Machine.{State}
-use Rattle.event_play.specs.Feeding.{StopsFeeding, drawing, due_lines}
-use Rattle.event_play.specs.Lines.{IsBuffered, lines_cost}
+use Rattle.event_play.specs.Feeding.{BuffersLines, EventInMode, StopsFeeding, drawing, due_lines, looks_in}
 use Rattle.event_play.specs.RigState.{Stands, machine_of}
 use Rattle.event_play.specs.PlayState.{PlayState}
 use Rattle.event_play.specs.Step.{Machine, done, operation_cost, asked_words}
 use Rattle.event_play.specs.Streams.{Outlets, sink_of}
 use Rattle.event_play.specs.Changes.{Change, fed_changes}
 use Rattle.event_play.specs.Told.{told_notes}
-use Rattle.event_play.specs.declared.ending.EventInMode.{EventInMode}
 use Rattle.event_play.specs.declared.operation.Operation.{Operation}
 
 -- the changes that its words make
@@ -30,7 +28,7 @@ pub record Does (event_in_mode : EventInMode) (s : Machine) (asked : Operation) 
   pub stands : Stands now.rig (done s event_in_mode.number asked).machine
   pub heard : now.out.heard ≡ told_notes (done s event_in_mode.number asked).notes before.heard
   pub cost : now.out.steps ≤ before.steps
-      + (operation_cost s asked + lines_cost event_in_mode.mode [] (operation_changes s event_in_mode.number asked))
+      + (operation_cost s asked + looks_in event_in_mode.mode (operation_changes s event_in_mode.number asked))
 
 -- The words of the operation were fed up to one whose line could not be written. Main memory and the running transfer
 -- are unchanged.
@@ -50,8 +48,8 @@ pub record Performs (event_in_mode : EventInMode) (asked : Operation) (before no
       × Does event_in_mode (machine_of before.rig s) asked before.out now)
   pub failed : (s : State) → kept_of s ≡ before.rig.gpu
       → OnErr result (Stops event_in_mode (machine_of before.rig s) asked before.out now)
-  pub kept : IsBuffered event_in_mode.mode ⊎ (now.out.buffered ≡ before.out.buffered)
-  pub buffers : OnErr result (IsBuffered event_in_mode.mode)
+  pub kept : BuffersLines event_in_mode.mode ⊎ (now.out.buffered ≡ before.out.buffered)
+  pub buffers : OnErr result (BuffersLines event_in_mode.mode)
   pub played : now.rig.played ≡ before.rig.played
   pub cause : OnErr result (Rose before.out.faults now.out.faults)
   pub faults : before.out.faults ≤ now.out.faults

@@ -1,6 +1,6 @@
 -- One event that is played, and the output after the last one.
-use Rattle.std.specs.Prelude.{◌≡◌, ◌≤◌, ◌⊎◌, Bool, ℕ, ◌+◌, List, Option, Result, Err, OnOk, IfErr, option_to_list}
-use Rattle.std.specs.Prelude.{true, false}
+use Rattle.std.specs.Prelude.{◌≡◌, ◌≤◌, ◌⊎◌, Bool, ℕ, ◌+◌, List, Option, Some, Result, Err, OnOk, IfErr}
+use Rattle.std.specs.Prelude.{true, false, option_to_list}
 use Rattle.gathered_out.specs.Causes.{Causes}
 use Rattle.gathered_out.specs.Pieces.{piece}
 use Rattle.gathered_out.specs.Puts.{BreaksPut, BreaksWriting, IsPut, IsWritten, holding}
@@ -85,9 +85,9 @@ pub record ShowsPart (mode : Mode) (comes : NextEvent) (before : Outlets) (now :
 -- the rig is unchanged.
 pub record FeedsPart (mode : Mode) (comes : NextEvent) (before : Outlets) (now : PlayState) (lacking : ℕ) : Type 0 where
   pub buffers : IsBuffered mode
-  pub breaks : BreaksPut (due_lines (in_event (number_in comes) mode) comes.replay.state.gpu
+  pub breaks : BreaksPut (due_lines (in_event (number_in comes) (Some mode)) comes.replay.state.gpu
       (event_words comes.replay.state comes.event)) (holding before.held before.buffered) now.out.held lacking
-  pub feeding : StopsFeeding (in_event (number_in comes) mode) comes.replay.state.gpu
+  pub feeding : StopsFeeding (in_event (number_in comes) (Some mode)) comes.replay.state.gpu
       (event_words comes.replay.state comes.event) before (drawing now.out now.rig.gpu)
   pub ram : comes.replay.state.ram ≡ now.rig.ram
   pub running : comes.replay.state.running ≡ now.rig.running

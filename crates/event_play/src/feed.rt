@@ -6,7 +6,7 @@ ghost use Rattle.event_play.specs.Replay.{Replay};
 ghost use Rattle.event_play.specs.Streams.{Outlets, with_sink, without_sink};
 ghost use Rattle.event_play.specs.Changes.{seen_cell};
 
-use crate::ending::{InEvent, Mode};
+use crate::ending::Mode;
 use crate::outlet::{Outlet, put_changed, put_listed};
 use crate::words::WordCursor;
 use gpu_core::Gpu;
@@ -14,6 +14,13 @@ use gpu_taps::Listener;
 use px_num::Cell;
 use std::sync::ledger::Ledger;
 use vram_store::Steps;
+
+/// A word, words or an operation of an event, and its number.
+#[derive(Clone, Copy)]
+pub(crate) struct InEvent<V> {
+    pub(crate) number: u64,
+    pub(crate) value: V,
+}
 
 /// Feeds `words` to GP0 in one event, and adds the lines of the completed items that the mode asks for. If a line
 /// cannot be written, feeds no further word, and returns the number of the first event whose lines are incomplete.
@@ -24,16 +31,16 @@ pub(crate) fn feed<O: Outlet, T: Listener, L: Ledger>(
     taps: &mut Vec<T>,
     steps: &mut Steps<L>,
 ) -> Result<(), u64>
-    ensures feeds { FeedsWords words.entry.event_in_mode words.entry.value
+    ensures feeds { FeedsWords (in_event words.entry.number (O.mode lines.old)) words.entry.value
         (drawing (with_sink (O.state lines.old) (map T.heard taps.old.items) steps.old) gpu.old)
         (drawing (with_sink (O.state lines.new) (map T.heard taps.new.items) steps.new) gpu.new) result }
     ensures same { O.same lines.old lines.new }
 {
-    let event_in_mode = words.event_in_mode;
+    let number = words.number;
     let mut left = words.value;
     'words: while let Some(word) = left.next() {
         let given = InEvent {
-            event_in_mode,
+            number,
             value: word,
         };
         match feed_word(gpu, given, lines, taps, steps) {
@@ -53,18 +60,18 @@ pub(crate) fn feed_word<O: Outlet, T: Listener, L: Ledger>(
     taps: &mut Vec<T>,
     steps: &mut Steps<L>,
 ) -> Result<(), u64>
-    ensures feeds { FeedsWords word.event_in_mode (word.value ∷ [])
+    ensures feeds { FeedsWords (in_event word.number (O.mode lines.old)) (word.value ∷ [])
         (drawing (with_sink (O.state lines.old) (map T.heard taps.old.items) steps.old) gpu.old)
         (drawing (with_sink (O.state lines.new) (map T.heard taps.new.items) steps.new) gpu.new) result }
     ensures same { O.same lines.old lines.new }
 {
-    let number = word.event_in_mode.number;
-    match word.event_in_mode.mode {
-        Mode::List => {
+    let number = word.number;
+    match lines.mode() {
+        Some(Mode::List) => {
             let note = gpu.gp0(number, word.value, taps, steps);
             put_listed(&note, lines)
         }
-        Mode::Pixel { cell } => {
+        Some(Mode::Pixel { cell }) => {
             let watch = Watch {
                 number,
                 word: word.value,
@@ -95,7 +102,7 @@ fn feed_watched<O: Outlet, T: Listener, L: Ledger>(
     taps: &mut Vec<T>,
     steps: &mut Steps<L>,
 ) -> Result<(), u64>
-    ensures feeds { FeedsWords (in_event watch.number (Mode.Pixel watch.cell)) (watch.word ∷ [])
+    ensures feeds { FeedsWords (in_event watch.number (Some (Mode.Pixel watch.cell))) (watch.word ∷ [])
         (drawing (with_sink (O.state lines.old) (map T.heard taps.old.items) steps.old) gpu.old)
         (drawing (with_sink (O.state lines.new) (map T.heard taps.new.items) steps.new) gpu.new) result }
     ensures same { O.same lines.old lines.new }

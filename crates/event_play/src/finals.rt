@@ -9,9 +9,11 @@ ghost use Rattle.packet_text.specs.Tap.{tap_line};
 ghost use Rattle.event_play.specs.Frames.{frames_after};
 ghost use Rattle.event_play.specs.Lines.{lines_after, lines_cost, WritesAfter};
 ghost use Rattle.event_play.specs.Out.{final_bytes, final_cost, lacks_picture};
+ghost use Rattle.event_play.specs.Replay.{next_number};
 
-use crate::ending::{EventInMode, Mode};
+use crate::ending::Mode;
 use crate::film::{Played, write_frames, write_last_frame, write_last_sums, write_sums};
+use crate::rig::Rig;
 use dev_io::{Failed, Sink};
 use gpu_core::Gpu;
 use gpu_taps::Listener;
@@ -64,32 +66,34 @@ pub(crate) fn lacks_picture(gpu: &Gpu, mode: Mode) -> bool
     }
 }
 
-/// Writes the final output of `event_in_mode.mode`. `event_in_mode.number` is the number of events played plus 1; only
-/// `Sums` prints it. `lacks_picture` must be false.
-#[tactic(auto, unfolding(crate::specs::Out::final_bytes, crate::specs::Out::final_cost))]
-pub(crate) fn write_finals<K: Sink, T: Listener, L: Ledger>(
-    gpu: &Gpu,
-    event_in_mode: EventInMode,
-    out: &mut K,
-    taps: &Vec<T>,
-    steps: &mut Steps<L>,
-) -> Result<(), Failed>
-    requires { lacks_picture event_in_mode.mode gpu.now.parts.regs ≡ false }
-    ensures writes { (s : State) → kept_of s ≡ gpu.now →
-        Writes (side K.held K.faults) out.old out.new
-        (final_bytes event_in_mode.mode (map T.heard taps.now.items) event_in_mode.number s) result }
-    ensures causes { Causes (Fails result) (K.faults out.old) (K.faults out.new) }
-    ensures cost { (s : State) → kept_of s ≡ gpu.now → steps.new ≤ steps.old + final_cost event_in_mode.mode s }
-{
-    match event_in_mode.mode {
-        Mode::Play => write_status(out, gpu.status()),
-        Mode::Vram => write_vram(gpu.vram(), out, steps),
-        Mode::Shot => write_ppm(gpu.vram(), gpu.regs(), out, steps),
-        Mode::Frames { at } => write_last_frame(gpu, at, out, steps),
-        Mode::Sums { at } => write_last_sums(gpu, event_in_mode.number, at, out, steps),
-        Mode::List => Ok(()),
-        Mode::Pixel { .. } => Ok(()),
-        Mode::Report => write_report(out, taps),
+impl Rig {
+    /// Writes the final output of `mode`. `lacks_picture` must be false.
+    #[tactic(auto, unfolding(crate::specs::Out::final_bytes, crate::specs::Out::final_cost))]
+    pub(crate) fn write_finals<K: Sink, T: Listener, L: Ledger>(
+        &self,
+        out: &mut K,
+        mode: Mode,
+        taps: &Vec<T>,
+        steps: &mut Steps<L>,
+    ) -> Result<(), Failed>
+        requires { lacks_picture mode self.now.gpu.parts.regs ≡ false }
+        ensures writes { (s : State) → kept_of s ≡ self.now.gpu →
+            Writes (side K.held K.faults) out.old out.new
+            (final_bytes mode (map T.heard taps.now.items) (next_number self.now.played) s) result }
+        ensures causes { Causes (Fails result) (K.faults out.old) (K.faults out.new) }
+        ensures cost { (s : State) → kept_of s ≡ self.now.gpu → steps.new ≤ steps.old + final_cost mode s }
+    {
+        let gpu = &self.gpu;
+        match mode {
+            Mode::Play => write_status(out, gpu.status()),
+            Mode::Vram => write_vram(gpu.vram(), out, steps),
+            Mode::Shot => write_ppm(gpu.vram(), gpu.regs(), out, steps),
+            Mode::Frames { at } => write_last_frame(gpu, at, out, steps),
+            Mode::Sums { at } => write_last_sums(gpu, self.next_number(), at, out, steps),
+            Mode::List => Ok(()),
+            Mode::Pixel { .. } => Ok(()),
+            Mode::Report => write_report(out, taps),
+        }
     }
 }
 

@@ -1,11 +1,13 @@
 // The receivers of lines of items.
-ghost use Rattle.std.specs.Prelude.{◌≡◌, ◌≤◌, [], ◌∷◌, length, option_to_list, IfSome};
+ghost use Rattle.std.specs.Prelude.{◌≡◌, ◌≤◌, [], ◌∷◌, length, Option, option_to_list, IfSome};
 ghost use Rattle.gathered_out.specs.Pieces.{piece};
 ghost use Rattle.gathered_out.specs.Puts.{Puts, SinkState};
 ghost use Rattle.packet_text.specs.Line.{change_line};
 ghost use Rattle.event_play.specs.Listing.{PutsLines, listed_pieces};
 ghost use Rattle.event_play.specs.Changes.{cell_change_line};
+ghost use Rattle.event_play.specs.declared.ending.Mode.{Mode as SpecMode};
 
+use crate::ending::Mode;
 use dev_io::Sink;
 use gathered_out::OutputBuffer;
 use gp0_packets::Note;
@@ -13,11 +15,18 @@ use packet_text::{change_text, note_text};
 
 /// A receiver of the lines of items.
 pub(crate) trait Outlet {
+    /// The mode whose lines it receives, or `None` if it receives none.
+    ghost mode: { Self → Option SpecMode };
+
     /// The sink and its buffer.
     ghost state: { Self → SinkState };
 
     /// Whether two values are the same receiver at two times.
     ghost same: { Self → Self → Type 0 };
+
+    /// Returns the mode whose lines it receives, or `None` if it receives none.
+    fn mode(&self) -> Option<Mode>
+        ensures { result ≡ mode self.now };
 
     /// Adds `line`, at most 4,096 bytes, to the output of event `number`. On failure, returns the number of the first
     /// event whose lines are incomplete.
@@ -29,30 +38,42 @@ pub(crate) trait Outlet {
     ghost same_at_first: { (x : Self) → same x x };
 
     ghost same_on: { (x y z : Self) → same x y → same y z → same x z };
+
+    ghost same_mode: { (x y : Self) → same x y → mode x ≡ mode y };
 }
 
-/// Buffers lines for a sink.
+/// Buffers the lines of a mode for a sink.
 #[derive(Drop)]
 pub(crate) struct Lines<'a, K: Sink> {
+    pub(crate) mode: Mode,
     pub(crate) buffered: &'a mut OutputBuffer,
     pub(crate) out: &'a mut K,
 }
 
 impl<'a, K: Sink> Outlet for Lines<'a, K> {
-    ghost use Rattle.std.proofs.Common.{◌≡◌, ◌∙◌, refl};
+    ghost use Rattle.std.proofs.Common.{◌≡◌, ◌∙◌, Some, ap, refl};
+    ghost use Rattle.event_play.specs.Feeding.{AreSameLines};
     ghost use Rattle.gathered_out.specs.Puts.{sink_state};
+
+    ghost mode = { λ s. Some s.mode };
 
     ghost state = { λ s. sink_state K.held K.faults s.out.now s.buffered.now };
 
-    ghost same = { λ s t. (s.buffered.ghost_name ≡ t.buffered.ghost_name) × (s.out.ghost_name ≡ t.out.ghost_name) };
+    ghost same = { AreSameLines };
+
+    fn mode(&self) -> Option<Mode> {
+        Some(self.mode)
+    }
 
     fn put(&mut self, number: u64, line: &[u8]) -> Result<(), u64> {
         self.buffered.put(number, line, self.out)
     }
 
-    ghost same_at_first = { λ x. (refl, refl) };
+    ghost same_at_first = { λ x. (refl, refl, refl) };
 
-    ghost same_on = { λ x y z first then. (first.0 ∙ then.0, first.1 ∙ then.1) };
+    ghost same_on = { λ x y z first then. (first.0 ∙ then.0, first.1 ∙ then.1, first.2 ∙ then.2) };
+
+    ghost same_mode = { λ x y same. ap (λ mode. Some mode) same.2 };
 }
 
 /// Ignores all lines.
@@ -60,11 +81,17 @@ impl<'a, K: Sink> Outlet for Lines<'a, K> {
 pub(crate) struct NoLines {}
 
 impl Outlet for NoLines {
-    ghost use Rattle.std.specs.Prelude.{[], None};
+    ghost use Rattle.std.specs.Prelude.{[], None, refl};
+
+    ghost mode = { λ _. None };
 
     ghost state = { λ _. record { held = None; faults = 0; buffered = [] } };
 
     ghost same = { λ _ _. Unit {0} };
+
+    fn mode(&self) -> Option<Mode> {
+        None
+    }
 
     fn put(&mut self, number: u64, line: &[u8]) -> Result<(), u64> {
         Ok(())
@@ -73,6 +100,8 @@ impl Outlet for NoLines {
     ghost same_at_first = { λ x. tt };
 
     ghost same_on = { λ x y z first then. tt };
+
+    ghost same_mode = { λ x y same. refl };
 }
 
 /// Adds the line of an item if one was completed and `before` and `after`, the values of the cell, differ.

@@ -7,7 +7,7 @@ ghost use Rattle.event_play.specs.Lines.{IsBuffered};
 ghost use Rattle.event_play.specs.PlayedWords.{IsUnwatched};
 ghost use Rattle.event_play.specs.Reading.{AreBlockOf, ReadsBlock, StopsInBlock};
 
-use crate::ending::{InMode, Mode};
+use crate::ending::Mode;
 use dev_io::Source;
 use gpu_capture::{Event, EventReader, Stop, WordBlock};
 use std::marker::Model;
@@ -60,13 +60,14 @@ impl RecordWords {
         &mut self,
         reader: &mut EventReader,
         source: &mut S,
-        event: InMode<Event>,
+        event: Event,
+        mode: Mode,
     ) -> Result<(), Stop>
         requires { reader.old.stop ≡ None }
-        ensures block { AreBlockOf event.mode event.value self.new }
+        ensures block { AreBlockOf mode event self.new }
         ensures goes_on { GoesOn reader.old.progress reader.new.progress }
-        ensures few { IsBuffered event.mode → reader.new.progress.offset ≤ reader.old.progress.offset + 2048 }
-        ensures waits { IsBuffered event.mode
+        ensures few { IsBuffered mode → reader.new.progress.offset ≤ reader.old.progress.offset + 2048 }
+        ensures waits { IsBuffered mode
             → reader.new.progress.offset ≤ reader.old.progress.offset + S.at_hand source.old }
         ensures reads { OnOk result (ReadsBlock (reader_input reader.old.progress (S.left source.old))
             (reader_input reader.new.progress (S.left source.new)) self.new) }
@@ -76,10 +77,10 @@ impl RecordWords {
         ensures faults { CountsFaults IsReadFault (S.faults source.old) (S.faults source.new) result }
     {
         self.count = 0;
-        match block_word(event, reader.words_left()) {
+        match block_word(event, reader.words_left(), mode) {
             None => Ok(()),
             Some(word) => {
-                let read = read_words(reader, source, event.mode, &mut self.next_words);
+                let read = read_words(reader, source, mode, &mut self.next_words);
                 self.count = put_words(&mut self.words, word, self.next_words.as_slice());
                 read
             }
@@ -89,15 +90,15 @@ impl RecordWords {
 
 // Returns the word of an event written to GP0 if `left` words of its record are left, at least one, and the mode is not
 // `Pixel`.
-fn block_word(event: InMode<Event>, left: u32) -> Option<u32>
-    ensures { IfSome result (λ word. (event.value ≡ Gp0 word) × IsUnwatched event.mode) }
+fn block_word(event: Event, left: u32, mode: Mode) -> Option<u32>
+    ensures { IfSome result (λ word. (event ≡ Gp0 word) × IsUnwatched mode) }
 {
     if left == 0 {
         return None;
     }
-    match event.mode {
+    match mode {
         Mode::Pixel { .. } => None,
-        _ => match event.value {
+        _ => match event {
             Event::Gp0 { word } => Some(word),
             _ => None,
         },

@@ -8,9 +8,10 @@ ghost use Rattle.event_play.specs.Causes.{MayReadFault, MayWriteFault, IsEnding}
 ghost use Rattle.event_play.specs.Ends.{EndsAt, EndsReading, final_output};
 ghost use Rattle.event_play.specs.Replay.{next_number};
 ghost use Rattle.event_play.specs.Streams.{buffering, outlets};
+ghost use Rattle.event_play.specs.Feeding.{AreSameLines};
 
-use crate::ending::{Ending, EventInMode, InMode, Mode};
-use crate::finals::{lacks_picture, write_finals};
+use crate::ending::{Ending, Mode};
+use crate::finals::lacks_picture;
 use crate::outlet::Lines;
 use crate::rig::Rig;
 use dev_io::Sink;
@@ -23,30 +24,29 @@ impl Rig {
     /// Flushes the buffer, then ends playing at a stop of the reader. If the stop is `End`, writes the final output.
     pub(crate) fn end_reading<K: Sink, T: Listener, L: Ledger>(
         &self,
-        stop: InMode<Stop>,
+        stop: Stop,
         lines: &mut Lines<K>,
         taps: &Vec<T>,
         steps: &mut Steps<L>,
     ) -> Ending
         ensures ends { (s : State) → kept_of s ≡ self.now.gpu →
-            EndsReading (final_output stop.mode s (next_number self.now.played)) stop.value
+            EndsReading (final_output lines.old.mode s (next_number self.now.played)) stop
             (buffering lines.old.buffered.now (outlets (K.held lines.old.out.now) (K.faults lines.old.out.now)
             (map T.heard taps.now.items) steps.old))
             (outlets (K.held lines.new.out.now) (K.faults lines.new.out.now)
             (map T.heard taps.now.items) steps.new) result }
         ensures known { IsEnding result }
-        ensures stopped { MayReadFault result → IsReadFault stop.value }
+        ensures stopped { MayReadFault result → IsReadFault stop }
         ensures causes { Causes (MayWriteFault result)
             (K.faults lines.old.out.now) (K.faults lines.new.out.now) }
-        ensures buffered { lines.new.buffered.ghost_name ≡ lines.old.buffered.ghost_name }
-        ensures out { lines.new.out.ghost_name ≡ lines.old.out.ghost_name }
+        ensures same { AreSameLines lines.old lines.new }
     {
         match lines.buffered.write(lines.out) {
-            Ok(()) => match stop.value {
-                Stop::End => self.finish(lines.out, stop.mode, taps, steps),
+            Ok(()) => match stop {
+                Stop::End => self.finish(lines.out, lines.mode, taps, steps),
                 _ => Ending::Stopped {
                     event: self.next_number(),
-                    stop: stop.value,
+                    stop,
                 },
             },
             Err(event) => Ending::WriteFailed { event },
@@ -73,11 +73,7 @@ impl Rig {
         if lacks_picture(&self.gpu, mode) {
             return Ending::NoPicture { event };
         }
-        let event_in_mode = EventInMode {
-            number: event,
-            mode,
-        };
-        match write_finals(&self.gpu, event_in_mode, out, taps, steps) {
+        match self.write_finals(out, mode, taps, steps) {
             Ok(()) => Ending::Done,
             Err(_) => Ending::WriteFailed { event },
         }

@@ -3,7 +3,8 @@ use Rattle.std.proofs.Common.{◌≡◌, ℕ, ℤ, ◌≤ℤ◌, int_lt, Bool, t
 use Rattle.std.proofs.Common.{arith}
 use Rattle.std.proofs.lemmas.Int.{ints, clamps}
 use Rattle.px_num.specs.declared.shape.Box2.{Box2}
-use Rattle.prim_draw.specs.Boxes.{some_box, overlap, clip_rect_of, IsOnScreen, LiesIn}
+use Rattle.prim_draw.specs.Boxes.{some_box, overlap}
+use Rattle.span_lanes.specs.Figures.Boxes.{clip_rect_of, IsOnScreen, LiesInBox}
 use Rattle.prim_draw.specs.Rectangles.{cells_box, IsExtent, IsPartOf}
 use Rattle.prim_draw.specs.declared.rectangles.Extent.{Extent}
 use Rattle.gp1_status.specs.Drawing.{IsArea}
@@ -40,13 +41,13 @@ pub on_screen : (height : ℕ) (b area : Box2) → IsArea height area
 unfolding some_box
 on_screen height b area h = some_on height (overlap b area) _ _ refl refl (overlap_in height b area h)
 
-some_in : (outer b : Box2) (across down : Bool) → LiesIn outer b
-    → IfSome (cond (across || down) None (Some b)) (LiesIn outer)
+some_in : (outer b : Box2) (across down : Bool) → LiesInBox outer b
+    → IfSome (cond (across || down) None (Some b)) (LiesInBox outer)
 some_in outer b true q h = tt
 some_in outer b false true h = tt
 some_in outer b false false h = h
 
-overlap_lies : (b area : Box2) → LiesIn b (overlap b area)
+overlap_lies : (b area : Box2) → LiesInBox b (overlap b area)
 unfolding overlap
 overlap_lies b area = record {
   left = omega (arith, ints, clamps);
@@ -55,7 +56,7 @@ overlap_lies b area = record {
   bottom = omega (arith, ints, clamps);
 }
 
-pub lies_in : (b area : Box2) → IfSome (some_box (overlap b area)) (LiesIn b)
+pub lies_in : (b area : Box2) → IfSome (some_box (overlap b area)) (LiesInBox b)
 unfolding some_box
 lies_in b area =
     let c = overlap b area in
@@ -68,7 +69,7 @@ if_both None f p q = tt
 if_both (Some a) f p q = f a p q
 
 -- a part of a rectangle, as a clip rectangle
-pub part_of : (e : Extent) (height : ℕ) (b : Box2) → IsExtent e → IsOnScreen height b → LiesIn (cells_box e) b
+pub part_of : (e : Extent) (height : ℕ) (b : Box2) → IsExtent e → IsOnScreen height b → LiesInBox (cells_box e) b
     → IsPartOf e (clip_rect_of b)
 unfolding clip_rect_of
 part_of e height b is on lies = record {

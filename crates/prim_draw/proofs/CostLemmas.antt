@@ -12,15 +12,18 @@ use Rattle.edge_walk.specs.Triangle.{Corners}
 use Rattle.line_walk.specs.Line.{Ends, is_near}
 use Rattle.span_lanes.specs.Cells.{cell_in_row, row_cells}
 use Rattle.span_lanes.proofs.CostLemmas.{cost_law as span_small}
-use Rattle.prim_draw.specs.Boxes.{clip_rect_of, clip_row, count_in}
-use Rattle.prim_draw.specs.Costs.{side_by_side, cost_down, inside_cost, triangle_cost, polygon_cost}
+use Rattle.span_lanes.specs.Figures.Boxes.{clip_rect_of, clip_row}
+use Rattle.prim_draw.specs.Boxes.{count_in}
+use Rattle.span_lanes.specs.Figures.Rows.{side_by_side, cost_down}
+use Rattle.prim_draw.specs.Costs.{inside_cost, triangle_cost, polygon_cost}
 use Rattle.prim_draw.specs.Costs.{all_cost, rectangle_cost, ends_cost, draw_cost, box_cost}
 use Rattle.prim_draw.specs.Laws.{CostLaw}
 use Rattle.prim_draw.specs.Lines.{placed_ends, segment_box}
 use Rattle.prim_draw.specs.Parts.{polygon, polygon_style, rectangle_style}
 use Rattle.span_lanes.specs.Pattern.{Pattern, uniform, span_from}
 use Rattle.prim_draw.specs.Rectangles.{extent_at, pattern_of, rectangle_box, rectangle_setup_in}
-use Rattle.prim_draw.specs.Triangles.{draws, row_inside, lower_half, triangle_box, triangle_state, upper_half}
+use Rattle.span_lanes.specs.Figures.Triangles.{draws, row_inside}
+use Rattle.prim_draw.specs.Triangles.{lower_half, triangle_box, triangle_state, upper_half}
 use Rattle.span_lanes.specs.declared.span.DrawState.{DrawState}
 use Rattle.prim_draw.specs.declared.primitives.Polygon.{Polygon}
 use Rattle.prim_draw.specs.declared.rectangles.Extent.{Extent}

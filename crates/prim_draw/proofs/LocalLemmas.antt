@@ -12,7 +12,8 @@ use Rattle.span_lanes.specs.Shade.{paint_pixel}
 use Rattle.span_lanes.specs.declared.span.Brush.{Brush}
 use Rattle.span_lanes.specs.declared.span.Paint.{Paint}
 use Rattle.span_lanes.specs.declared.span.Paint.TheVariants.{Flat, Shaded, TexturedTri, TexturedRow}
-use Rattle.prim_draw.specs.Boxes.{clip_rect_of, cells_of}
+use Rattle.span_lanes.specs.Figures.Boxes.{clip_rect_of}
+use Rattle.prim_draw.specs.Boxes.{cells_of}
 use Rattle.prim_draw.specs.Draw.{drawn_packet}
 use Rattle.prim_draw.specs.Lines.{drawn_ends, drawn_point, drawn_points, is_in, cell_of as cell_at, placed_ends}
 use Rattle.prim_draw.specs.Parts.{polygon, polygon_style, rectangle_style}
@@ -22,7 +23,8 @@ use Rattle.prim_draw.specs.Rectangles.{pattern_of}
 use Rattle.span_lanes.specs.Pattern.{uniform, pixel_at}
 use Rattle.gp1_status.specs.Drawing.{drawing_area}
 use Rattle.prim_draw.specs.Settings.{brush_in}
-use Rattle.prim_draw.specs.Triangles.{draws, drawn_inside, drawn_polygon, drawn_triangle}
+use Rattle.span_lanes.specs.Figures.Triangles.{draws}
+use Rattle.prim_draw.specs.Triangles.{drawn_inside, drawn_polygon, drawn_triangle}
 use Rattle.prim_draw.specs.Triangles.{triangle_box, triangle_state, triangle_paint, upper_half, lower_half}
 use Rattle.span_lanes.specs.declared.span.DrawState.{DrawState}
 use Rattle.prim_draw.specs.declared.rectangles.Extent.{Extent}

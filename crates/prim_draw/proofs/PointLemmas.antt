@@ -7,7 +7,7 @@ use Rattle.px_num.specs.declared.shape.Vertex.{Vertex}
 use Rattle.span_lanes.specs.declared.span.Brush.{Brush}
 use Rattle.span_lanes.specs.declared.span.Paint.TheVariants.{Flat}
 use Rattle.span_lanes.specs.Cost.{span_cost}
-use Rattle.span_lanes.specs.Guard.{has_hazard}
+use Rattle.span_lanes.specs.Hazard.Guard.{has_hazard}
 use Rattle.span_lanes.specs.Shade.{flat_pixel, blended_if}
 use Rattle.vram_store.specs.Plot.{forced, is_kept, is_testing, plot}
 use Rattle.vram_store.specs.Vram.{set}

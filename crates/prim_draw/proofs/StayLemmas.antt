@@ -17,18 +17,19 @@ use Rattle.span_lanes.specs.Cells.{drawn_cells, row_cells, cell_in_row}
 use Rattle.span_lanes.specs.declared.span.Brush.{Brush}
 use Rattle.span_lanes.specs.declared.span.Paint.TheVariants.{Flat}
 use Rattle.prim_draw.specs.Areas.{area_of, hull, joined, polygon_area}
-use Rattle.prim_draw.specs.Boxes.{clip_rect_of, cells_in_rows, cells_of, clipped, overlap, some_box}
+use Rattle.span_lanes.specs.Figures.Boxes.{clip_rect_of}
+use Rattle.prim_draw.specs.Boxes.{cells_in_rows, cells_of, clipped, overlap, some_box}
 use Rattle.prim_draw.specs.Draw.{drawn_packet}
 use Rattle.prim_draw.specs.Lines.{drawn_ends, drawn_point, drawn_points, ends_box, is_in, cell_of, placed_ends}
 use Rattle.prim_draw.specs.Lines.{segment_box}
 use Rattle.prim_draw.specs.Parts.{polygon, polygon_style, rectangle_style}
-use Rattle.prim_draw.specs.Rectangles.{cells_box, extent_at, drawn_all, drawn_rectangle, rectangle_box}
+use Rattle.prim_draw.specs.Rectangles.{cells_box, extent_at, drawn_all, drawn_rectangle, rectangle_box, pattern_of}
 use Rattle.prim_draw.specs.Rectangles.{rectangle_setup_in}
-use Rattle.prim_draw.specs.Rectangles.{pattern_of}
 use Rattle.span_lanes.specs.Pattern.{uniform, pixel_at}
 use Rattle.gp1_status.specs.Drawing.{drawing_area}
 use Rattle.prim_draw.specs.Settings.{brush_in}
-use Rattle.prim_draw.specs.Triangles.{draws, drawn_inside, drawn_polygon, drawn_triangle}
+use Rattle.span_lanes.specs.Figures.Triangles.{draws}
+use Rattle.prim_draw.specs.Triangles.{drawn_inside, drawn_polygon, drawn_triangle}
 use Rattle.prim_draw.specs.Triangles.{triangle_box, triangle_state, upper_half, lower_half}
 use Rattle.span_lanes.specs.declared.span.DrawState.{DrawState}
 use Rattle.prim_draw.specs.declared.rectangles.Extent.{Extent}
@@ -82,10 +83,10 @@ pub record IsSeen (b : Box2) : Type 0 where
   pub top : pos 0 ≤ℤ b.y1
   pub down : b.y1 ≤ℤ b.y2
 
-in_block : (b : Box2) (i j : ℕ) → IsSeen b → i < (clip_rect_of b).w → j < (clip_rect_of b).h
+in_clip : (b : Box2) (i j : ℕ) → IsSeen b → i < (clip_rect_of b).w → j < (clip_rect_of b).h
     → Has b (1024 * ((clip_rect_of b).y + j) + ((clip_rect_of b).x + i))
 unfolding clip_rect_of
-in_block b i j seen lt lu =
+in_clip b i j seen lt lu =
     let column : pos (unsigned_abs b.x1 + i) ≤ℤ b.x2 = omega (arith, ints, seen.left, seen.across, lt) in
     let row : pos (unsigned_abs b.y1 + j) ≤ℤ b.y2 = omega (arith, ints, seen.top, seen.down, lu) in
     let x : (1024 * (unsigned_abs b.y1 + j) + (unsigned_abs b.x1 + i)) % 1024 ≡ unsigned_abs b.x1 + i = omega
@@ -101,7 +102,7 @@ in_block b i j seen lt lu =
 
 each_in_box : (b : Box2) → IsSeen b → EachCell (Has b) (cells_of (clip_rect_of b))
 each_in_box b seen = each_rows (Has b) (clip_rect_of b).x (clip_rect_of b).y (clip_rect_of b).w (clip_rect_of b).h
-    (λ i j lt lu. in_block b i j seen lt lu)
+    (λ i j lt lu. in_clip b i j seen lt lu)
 
 -- ---- boxes that are clipped to the drawing area
 

@@ -1,14 +1,13 @@
 -- Rectangles in a clip rectangle.
-use Rattle.std.specs.Prelude.{ℕ, ◌≡◌, pos, ◌-ℤ◌, unsigned_abs, Some}
+use Rattle.std.specs.Prelude.{ℕ, pos, ◌-ℤ◌, unsigned_abs}
 use Rattle.span_lanes.specs.Cells.{Stage}
 use Rattle.span_lanes.specs.ClipRect.{IsClipRect}
 use Rattle.span_lanes.specs.Shade.{row_u}
 use Rattle.span_lanes.specs.declared.rows.texel_rows.TexelRows.{TexelRows}
 use Rattle.texel_lanes.specs.declared.texture.Texture.{Texture}
-use Rattle.prim_draw.specs.Boxes.{clip_row}
 use Rattle.span_lanes.specs.Pattern.{Pattern}
 use Rattle.prim_draw.specs.Rectangles.{IsExtent, IsPartOf, IsRectangleSetup, pattern_of}
-use Rattle.prim_draw.specs.Rows.{DrawsRows}
+use Rattle.span_lanes.specs.Figures.Rectangles.{DrawsClip}
 use Rattle.prim_draw.specs.declared.rectangles.ClippedRectangle.{ClippedRectangle}
 
 -- the cells of a rectangle in a clip rectangle can be drawn in video memory of a height
@@ -40,18 +39,7 @@ texels_of rectangle texture =
       clip_rect = rectangle.clip_rect.now;
     }
 
--- rows are the texels of such a rectangle
-pub record AreTexelsOf (rectangle : ClippedRectangle) (rows : TexelRows) : Type 0 where
-  pub texture : rectangle.rectangle_setup.now.texture ≡ Some rows.texture
-  pub are : rows ≡ texels_of rectangle rows.texture
-
 -- ---- what was drawn; stages are video memory and the number of steps before and after
 
 abbrev pub DrawsRectangle : ClippedRectangle → (before after : Stage) → Type 0
-DrawsRectangle rectangle before after =
-    DrawsRows (record {
-      pattern = rectangle_pattern rectangle;
-      row = clip_row rectangle.clip_rect.now;
-      top = rectangle.clip_rect.now.y;
-    })
-    rectangle.clip_rect.now.h before after
+DrawsRectangle rectangle before after = DrawsClip (rectangle_pattern rectangle) rectangle.clip_rect.now before after

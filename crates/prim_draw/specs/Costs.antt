@@ -1,35 +1,26 @@
 -- The store steps that a packet may take (our own rule).
-use Rattle.std.specs.Prelude.{ℕ, zero, suc, ◌+◌, ◌*◌, List, [], ◌∷◌, length, Option, None, Some, if◌then◌else◌}
+use Rattle.std.specs.Prelude.{ℕ, zero, suc, ◌+◌, ◌*◌, Option, None, Some, if◌then◌else◌}
 use Rattle.px_num.specs.declared.shape.Box2.{Box2}
-use Rattle.px_num.specs.declared.shape.Cell.{Cell}
 use Rattle.gp0_packets.specs.declared.packet.Packet.{Packet}
 use Rattle.gp0_packets.specs.declared.packet.Packet.TheVariants as packet
 use Rattle.gp1_status.specs.Registers.{Registers}
 use Rattle.edge_walk.specs.Triangle.{Corners}
 use Rattle.line_walk.specs.Line.{Ends, is_near, len_of, point_of}
-use Rattle.span_lanes.specs.Cost.{span_cost}
-use Rattle.prim_draw.specs.Boxes.{clip_rect_of, clip_row, count_in}
+use Rattle.span_lanes.specs.Figures.Rows.{cost_down}
+use Rattle.span_lanes.specs.Figures.Triangles.{row_inside}
+use Rattle.span_lanes.specs.Figures.Boxes.{clip_rect_of, clip_row}
+use Rattle.prim_draw.specs.Boxes.{count_in}
 use Rattle.prim_draw.specs.Lines.{is_in, placed_ends, segment_box}
 use Rattle.prim_draw.specs.Parts.{polygon, polygon_style, rectangle_style}
-use Rattle.span_lanes.specs.Pattern.{Pattern, uniform, span_from}
+use Rattle.span_lanes.specs.Pattern.{uniform}
 use Rattle.prim_draw.specs.Rectangles.{extent_at, pattern_of, rectangle_box, rectangle_setup_in}
 use Rattle.gp1_status.specs.Drawing.{drawing_area}
-use Rattle.prim_draw.specs.Triangles.{lower_half, row_inside, triangle_box, triangle_state, upper_half}
+use Rattle.prim_draw.specs.Triangles.{lower_half, triangle_box, triangle_state, upper_half}
 use Rattle.span_lanes.specs.declared.span.DrawState.{DrawState}
 use Rattle.prim_draw.specs.declared.primitives.Polygon.{Polygon}
 use Rattle.prim_draw.specs.declared.rectangles.Extent.{Extent}
 use Rattle.prim_draw.specs.declared.rectangles.RectangleSetup.{RectangleSetup}
 use Rattle.prim_draw.specs.declared.settings.Style.{Style}
-
--- the cost of the drawn cells of a row, which are consecutive, as one span
-abbrev pub side_by_side : Pattern → List Cell → ℕ
-side_by_side p [] = 0
-side_by_side p (cell ∷ cells) = span_cost (span_from p cell (length (cell ∷ cells)))
-
--- the cost of `count` rows, from row `top` on
-abbrev pub cost_down : Pattern → (row : ℕ → List Cell) → (top count : ℕ) → ℕ
-cost_down p row top zero = 0
-cost_down p row top (suc count) = cost_down p row top count + side_by_side p (row (top + count))
 
 -- ---- triangles
 

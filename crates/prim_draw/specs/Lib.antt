@@ -1,6 +1,5 @@
 pub mod Apart
 pub mod Areas
-pub mod ClippedTriangle
 pub mod Boxes
 pub mod Costs
 pub mod Draw
@@ -9,11 +8,8 @@ pub mod Laws
 pub mod Lines
 pub mod Parts
 pub mod Rectangles
-pub mod Rows
 pub mod Settings
-pub mod Solids
 pub mod ScreenPoints
 pub mod Staying
 pub mod ClippedRectangle
 pub mod Triangles
-pub mod Walks

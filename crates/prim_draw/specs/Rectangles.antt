@@ -10,7 +10,8 @@ use Rattle.span_lanes.specs.declared.span.Paint.TheVariants.{Flat, TexturedRow}
 use Rattle.texel_lanes.specs.declared.texture.Texture.{Texture}
 use Rattle.texel_lanes.specs.Texture.{HasPage, IsTexture}
 use Rattle.span_lanes.specs.Shade.{IsBrush, row_u}
-use Rattle.prim_draw.specs.Boxes.{clip_rect_of, cells_of, clipped}
+use Rattle.span_lanes.specs.Figures.Boxes.{clip_rect_of}
+use Rattle.prim_draw.specs.Boxes.{cells_of, clipped}
 use Rattle.span_lanes.specs.Pattern.{Pattern, painted_cells}
 use Rattle.prim_draw.specs.Settings.{brush_in, texture_in}
 use Rattle.span_lanes.specs.declared.span.ClipRect.{ClipRect}

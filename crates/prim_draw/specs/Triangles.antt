@@ -1,31 +1,21 @@
 -- Triangles and quads, cell by cell (psx-spx, "GPU Render Polygon Commands"; the choice of cells is our own rule).
-use Rattle.std.specs.Prelude.{ℕ, ◌≡◌, ◌≤◌, ◌+◌, List, [], Option, None, Some, Bool, IfSome, ◌||◌, if◌then◌else◌}
-use Rattle.std.specs.Prelude.{pos}
+use Rattle.std.specs.Prelude.{ℕ, List, Option, None, Some, ◌||◌, if◌then◌else◌}
 use Rattle.std.specs.List.{filter}
 use Rattle.px_num.specs.declared.shape.Box2.{Box2}
-use Rattle.px_num.specs.declared.shape.Cell.{Cell}
 use Rattle.px_num.specs.declared.shape.Vertex.{Vertex}
 use Rattle.gp1_status.specs.Registers.{Registers}
 use Rattle.edge_walk.specs.Extent.{bounding_box}
-use Rattle.edge_walk.specs.Triangle.{Corners, corners, is_drawn, is_inside}
-use Rattle.span_lanes.specs.declared.span.Brush.{Brush}
+use Rattle.edge_walk.specs.Triangle.{Corners, corners, is_drawn}
 use Rattle.span_lanes.specs.declared.span.Paint.{Paint}
 use Rattle.span_lanes.specs.declared.span.Paint.TheVariants.{Flat, Shaded, TexturedTri}
-use Rattle.texel_lanes.specs.Texture.{HasPage, IsTexture}
-use Rattle.span_lanes.specs.Shade.{AreInside, HasInside, IsBrush, paint_pixel, texture_of}
-use Rattle.span_lanes.specs.Cells.{row_cells}
-use Rattle.prim_draw.specs.Boxes.{clip_rect_of, cells_of, clipped}
+use Rattle.span_lanes.specs.Figures.Boxes.{clip_rect_of}
+use Rattle.prim_draw.specs.Boxes.{cells_of, clipped}
 use Rattle.span_lanes.specs.Pattern.{uniform, painted_cells}
+use Rattle.span_lanes.specs.Figures.Triangles.{draws}
 use Rattle.prim_draw.specs.Settings.{brush_in, placed, texture_in}
-use Rattle.span_lanes.specs.declared.span.ClipRect.{ClipRect}
 use Rattle.span_lanes.specs.declared.span.DrawState.{DrawState}
 use Rattle.prim_draw.specs.declared.primitives.Polygon.{Polygon}
 use Rattle.prim_draw.specs.declared.settings.Style.{Style}
-use Rattle.span_lanes.specs.declared.span.Run.{Run}
-
--- the triangle draws this cell, unless it is clipped
-abbrev pub draws : Corners → Cell → Bool
-draws t cell = is_inside t (pos cell.x) (pos cell.y)
 
 -- the box of a triangle in the drawing area: none if the size rule refuses it, its area is 0 or no cell of its box is
 -- in the drawing area
@@ -68,36 +58,3 @@ unfoldable pub drawn_polygon : Registers → Style → Polygon → List ℕ → 
 drawn_polygon r style p m =
     if p.four then drawn_triangle r style (lower_half r p) (drawn_triangle r style (upper_half r p) m)
     else drawn_triangle r style (upper_half r p) m
-
--- ---- by rows
-
--- the cells of row y of a clip rectangle that the triangle draws
-abbrev pub row_inside : Corners → ClipRect → ℕ → List Cell
-row_inside t b y = filter (draws t) (row_cells b.x y b.w)
-
--- the cells of a run, or of none
-abbrev pub run_cells : Option Run → ℕ → List Cell
-run_cells None y = []
-run_cells (Some run) y = row_cells run.x y run.n
-
--- consecutive cells of row y that a triangle draws
-pub record IsRun (t : Corners) (y : ℕ) (run : Run) : Type 0 where
-  pub some : 1 ≤ run.n
-  pub in_row : run.x + run.n ≤ 1024
-  pub inside : AreInside t run.x y run.n
-
--- if cells are inside the triangle, they can be drawn with the paint
-pub record FitsTriangle (t : Corners) (paint : Paint) : Type 0 where
-  pub inside : (x y n : ℕ) → AreInside t x y n → HasInside paint x y n
-
--- the pixel of a cell does not depend on its number in a row
-pub record IsAlike (paint : Paint) : Type 0 where
-  pub alike : (brush : Brush) (x y i j : ℕ) (m : List ℕ)
-      → paint_pixel paint brush x y i m ≡ paint_pixel paint brush x y j m
-
--- a draw state that can be used in video memory of this height
-pub record IsDrawState (height : ℕ) (state : DrawState) : Type 0 where
-  pub brush : IsBrush state.brush
-  pub texture : IfSome (texture_of state.paint) IsTexture
-  pub alike : IsAlike state.paint
-  pub page : IfSome (texture_of state.paint) (HasPage height)

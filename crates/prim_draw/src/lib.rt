@@ -11,9 +11,7 @@ pub mod laws;
 mod lines;
 mod primitives;
 mod rectangles;
-mod rows;
 mod settings;
-mod solid;
 mod triangles;
 
 pub use boxes::area_of;

@@ -8,13 +8,10 @@ ghost use Rattle.prim_draw.specs.PointColor.{ArePointsColored, IsInMemory, color
 ghost use Rattle.prim_draw.specs.Lines.{drawn_ends, drawn_point, drawn_points, ends_box, is_in, placed_ends};
 ghost use Rattle.prim_draw.specs.Lines.{segment_box, plotted};
 ghost use Rattle.gp1_status.specs.Drawing.{IsArea};
-ghost use Rattle.blend_dither.specs.Color.{IsShift};
-ghost use Rattle.span_lanes.specs.Shade.{blended_if, flat_pixel, dither_of};
 ghost use Rattle.vram_store.specs.Plot.{is_testing};
 
 use crate::boxes::{box_from, clipped, greatest, is_in, least, screen_point_of};
 use crate::settings::{brush_in, placed};
-use blend_dither::{blend, pack, shift_at, tone};
 use gp1_status::Regs;
 use line_walk::Segment;
 use px_num::{Box2, Cell, Vertex};
@@ -201,36 +198,6 @@ pub(crate) fn segment_box(regs: &Regs, ends: &Ends) -> Option<Box2>
     }
 }
 
-#[tactic(auto, unfolding(span_lanes::specs::Shade::dither_of))]
-fn shift_for(dither: bool, to: Cell) -> i8
-    ensures value { result ≡ dither_of dither to.x to.y }
-    ensures small { IsShift result }
-{
-    if dither { shift_at(to.x, to.y) } else { 0 }
-}
-
-#[tactic(auto, unfolding(span_lanes::specs::Shade::blended_if))]
-fn blend_if(brush: &Brush, back: u16, front: u16) -> u16
-    requires { brush.now.mode ≤ 3 }
-    ensures { result ≡ blended_if brush.now.semi brush.now.mode back front }
-{
-    if brush.semi {
-        blend(brush.mode, back, front)
-    } else {
-        front
-    }
-}
-
-// Returns the pixel of a colour over a cell with the value `back`. `shift` is the dither offset.
-#[tactic(auto, unfolding(span_lanes::specs::Shade::flat_pixel))]
-fn pixel_over(brush: &Brush, color: u32, shift: i8, back: u16) -> u16
-    requires mode { brush.now.mode ≤ 3 }
-    requires shift { IsShift shift }
-    ensures { Some result ≡ flat_pixel brush.now color shift back }
-{
-    pack(blend_if(brush, back, tone(color, shift)), false, false)
-}
-
 // Plots a colour at a cell, which is read first. Costs at most two steps.
 fn plot_seen<L: Ledger>(vram: &mut Vram, brush: &Brush, to: Cell, color: u32, steps: &mut Steps<L>)
     requires in_row { to.x < 1024 }
@@ -241,8 +208,8 @@ fn plot_seen<L: Ledger>(vram: &mut Vram, brush: &Brush, to: Cell, color: u32, st
     ensures cost { steps.new ≤ steps.old + 2 }
 {
     let back = vram.get(to.x, to.y, steps);
-    let shift = shift_for(brush.dither, to);
-    let pixel = pixel_over(brush, color, shift, back);
+    let shift = brush.dither_offset(to.x, to.y);
+    let pixel = brush.pixel_over(color, shift, back);
     if let Some(halfword) = write_color(brush.mask, back, pixel) {
         vram.put(to.x, to.y, halfword, steps);
     }
@@ -266,8 +233,8 @@ fn plot_unseen<L: Ledger>(
     ensures long { length vram.new ≡ length vram.old }
     ensures cost { steps.new ≤ steps.old + 2 }
 {
-    let shift = shift_for(brush.dither, to);
-    let pixel = pixel_over(brush, color, shift, 0);
+    let shift = brush.dither_offset(to.x, to.y);
+    let pixel = brush.pixel_over(color, shift, 0);
     vram.put(to.x, to.y, force(brush.mask, pixel), steps);
 }
 
@@ -312,6 +279,6 @@ pub(crate) fn point_color_of(brush: &Brush, color: u32) -> Option<u16>
     if asks_for_cell(brush) {
         None
     } else {
-        Some(force(brush.mask, pixel_over(brush, color, 0, 0)))
+        Some(force(brush.mask, brush.pixel_over(color, 0, 0)))
     }
 }

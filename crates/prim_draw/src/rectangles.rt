@@ -2,28 +2,20 @@
 ghost use Rattle.std.specs.Prelude.{◌≡◌, ◌≤◌, ◌<◌, ◌+◌, ◌*◌, IfSome, length, pos, ◌-ℤ◌, unsigned_abs, None};
 ghost use Rattle.gp0_packets.specs.Ranges.{IsPlace};
 ghost use Rattle.texel_lanes.specs.Texture.{HasPage, IsTexture};
-ghost use Rattle.prim_draw.specs.Boxes.{IsOnScreen, clip_rect_of};
+ghost use Rattle.span_lanes.specs.Figures.Boxes.{IsOnScreen, clip_rect_of};
 ghost use Rattle.prim_draw.specs.Costs.{rectangle_cost};
-ghost use Rattle.prim_draw.specs.Rectangles.{cells_box, drawn_rectangle, extent_at, optional_texture};
+ghost use Rattle.prim_draw.specs.Rectangles.{cells_box, drawn_rectangle, extent_at, optional_texture, IsPartOf};
 ghost use Rattle.prim_draw.specs.Rectangles.{rectangle_box, rectangle_setup_in, IsExtent, IsRectangleSetup};
-ghost use Rattle.prim_draw.specs.Rectangles.{IsPartOf};
 ghost use Rattle.vram_store.specs.Vram.{height_of};
 ghost use Rattle.span_lanes.specs.ClipRect.{IsClipRect};
 ghost use Rattle.span_lanes.specs.Shade.{row_u};
-ghost use Rattle.span_lanes.specs.TexelRows.{AreRowsContiguous, CanCacheRows, CanCacheRows256};
-ghost use Rattle.prim_draw.specs.ClippedRectangle.{AreTexelsOf, CanDrawRectangle, DrawsRectangle, texels_of};
-ghost use Rattle.prim_draw.specs.Solids.{IsEven, flat_state, solid_state};
+ghost use Rattle.prim_draw.specs.ClippedRectangle.{CanDrawRectangle, DrawsRectangle, texels_of};
 
-use crate::boxes::{clip_rect_of, clipped};
-use crate::rows::{ClipRectRows, draw_rows};
+use crate::boxes::clipped;
 use crate::settings::{Style, brush_in, texture_in};
-use crate::solid::{Solid, solid_flat};
 use gp1_status::Regs;
 use px_num::Box2;
-use span_lanes::{
-    AnyRows, Brush, CachedClut256Rows, CachedClutRows, ClipRect, ContiguousRows, DrawState, Paint,
-    RectangleDrawer, SpanDrawer, TexelRows, TexelRowsMethod, Texture, row_u,
-};
+use span_lanes::{Brush, ClipRect, TexelRows, Texture, draw_flat_rectangle, row_u};
 use std::sync::ledger::Ledger;
 use vram_store::{Steps, Vram};
 
@@ -159,7 +151,7 @@ impl RectangleSetup {
             let rectangle = ClippedRectangle {
                 rectangle_setup: self,
                 extent,
-                clip_rect: &clip_rect_of(clip),
+                clip_rect: &ClipRect::from_box(clip),
             };
             rectangle.draw(vram, steps);
         }
@@ -213,164 +205,21 @@ impl ClippedRectangle<'_> {
         }
     }
 
-    // Draws rows of texels by a method. Each method has an instance of this function.
-    #[inline(always)]
-    fn draw_by<M: TexelRowsMethod, L: Ledger>(
-        &self,
-        texels: &TexelRows,
-        vram: &mut Vram,
-        steps: &mut Steps<L>,
-    )
-        requires can { CanDrawRectangle (height_of vram.old) self.now }
-        requires texels { AreTexelsOf self.now texels.now }
-        requires accepts { M.accepts texels.now }
-        ensures { DrawsRectangle self.now
-            (record { m = vram.old; steps = steps.old }) (record { m = vram.new; steps = steps.new }) }
-    {
-        let mut rows = ClipRectRows {
-            clip_rect: *self.clip_rect,
-        };
-        let mut drawer = RectangleDrawer::<M>::new(texels);
-        draw_rows(vram, &mut rows, &mut drawer, steps);
-    }
-
-    // Draws texels whose CLUT is coloured once: by one loop for each case of raw and opaque.
-    #[inline(never)]
-    fn draw_cached<L: Ledger>(&self, rows: &TexelRows, vram: &mut Vram, steps: &mut Steps<L>)
-        requires can { CanDrawRectangle (height_of vram.old) self.now }
-        requires rows { AreTexelsOf self.now rows.now }
-        requires keeps { CanCacheRows 0 rows.now }
-        ensures { DrawsRectangle self.now
-            (record { m = vram.old; steps = steps.old }) (record { m = vram.new; steps = steps.new }) }
-    {
-        let opaque = rows.is_opaque();
-        if rows.texture.raw {
-            let rows = rows.known_raw(true);
-            if opaque {
-                self.draw_by::<CachedClutRows, L>(&rows.known_opaque(), vram, steps);
-            } else {
-                self.draw_by::<CachedClutRows, L>(&rows, vram, steps);
-            }
-        } else {
-            let rows = rows.known_raw(false);
-            if opaque {
-                self.draw_by::<CachedClutRows, L>(&rows.known_opaque(), vram, steps);
-            } else {
-                self.draw_by::<CachedClutRows, L>(&rows, vram, steps);
-            }
-        }
-    }
-
-    // The same for a CLUT of 256 entries: by one loop for opaque pixels, and one for others.
-    #[inline(never)]
-    fn draw_cached256<L: Ledger>(&self, rows: &TexelRows, vram: &mut Vram, steps: &mut Steps<L>)
-        requires can { CanDrawRectangle (height_of vram.old) self.now }
-        requires rows { AreTexelsOf self.now rows.now }
-        requires keeps { CanCacheRows256 rows.now }
-        ensures { DrawsRectangle self.now
-            (record { m = vram.old; steps = steps.old }) (record { m = vram.new; steps = steps.new }) }
-    {
-        let rows = rows.known_raw(false);
-        if rows.is_opaque() {
-            self.draw_by::<CachedClut256Rows, L>(&rows.known_opaque(), vram, steps);
-        } else {
-            self.draw_by::<CachedClut256Rows, L>(&rows, vram, steps);
-        }
-    }
-
-    // Draws texels, choosing the loop for each row.
-    #[inline(never)]
-    fn draw_each<L: Ledger>(&self, rows: &TexelRows, vram: &mut Vram, steps: &mut Steps<L>)
-        requires can { CanDrawRectangle (height_of vram.old) self.now }
-        requires rows { AreTexelsOf self.now rows.now }
-        ensures { DrawsRectangle self.now
-            (record { m = vram.old; steps = steps.old }) (record { m = vram.new; steps = steps.new }) }
-    {
-        self.draw_by::<AnyRows, L>(rows, vram, steps);
-    }
-
-    // Draws contiguous texels whose CLUT is not cached.
-    #[inline(never)]
-    fn draw_contiguous<L: Ledger>(&self, rows: &TexelRows, vram: &mut Vram, steps: &mut Steps<L>)
-        requires can { CanDrawRectangle (height_of vram.old) self.now }
-        requires rows { AreTexelsOf self.now rows.now }
-        requires contiguous { AreRowsContiguous rows.now }
-        ensures { DrawsRectangle self.now
-            (record { m = vram.old; steps = steps.old }) (record { m = vram.new; steps = steps.new }) }
-    {
-        self.draw_by::<ContiguousRows, L>(rows, vram, steps);
-    }
-
     /// Draws the cells of the clip rectangle.
     pub(crate) fn draw<L: Ledger>(&self, vram: &mut Vram, steps: &mut Steps<L>)
         requires { CanDrawRectangle (height_of vram.old) self.now }
         ensures { DrawsRectangle self.now
             (record { m = vram.old; steps = steps.old }) (record { m = vram.new; steps = steps.new }) }
     {
-        let Some(texture) = &self.rectangle_setup.texture else {
-            return self.draw_flat(vram, steps);
-        };
-        let rows = self.texels(texture);
-        if !rows.are_contiguous() {
-            self.draw_each(&rows, vram, steps)
-        } else if !rows.has_cacheable_clut() {
-            self.draw_contiguous(&rows, vram, steps)
-        } else if rows.texture.page.depth == 0 {
-            self.draw_cached(&rows, vram, steps)
-        } else {
-            self.draw_cached256(&rows, vram, steps)
-        }
-    }
-}
-
-impl ClippedRectangle<'_> {
-    // Draws cells without a texture that all become the same halfword.
-    fn draw_solid<L: Ledger>(&self, solid: Solid, vram: &mut Vram, steps: &mut Steps<L>)
-        requires can { CanDrawRectangle (height_of vram.old) self.now }
-        requires flat { self.now.rectangle_setup.now.texture ≡ None }
-        requires uniform { IsEven solid }
-        requires state { solid_state solid
-            ≡ flat_state self.now.rectangle_setup.now.color self.now.rectangle_setup.now.brush }
-        ensures { DrawsRectangle self.now
-            (record { m = vram.old; steps = steps.old }) (record { m = vram.new; steps = steps.new }) }
-    {
-        let mut rows = ClipRectRows {
-            clip_rect: *self.clip_rect,
-        };
-        let mut drawer = solid;
-        draw_rows(vram, &mut rows, &mut drawer, steps);
-    }
-
-    // Draws any cells without a texture.
-    fn draw_spans<L: Ledger>(&self, vram: &mut Vram, steps: &mut Steps<L>)
-        requires can { CanDrawRectangle (height_of vram.old) self.now }
-        requires flat { self.now.rectangle_setup.now.texture ≡ None }
-        ensures { DrawsRectangle self.now
-            (record { m = vram.old; steps = steps.old }) (record { m = vram.new; steps = steps.new }) }
-    {
-        let state = DrawState {
-            paint: Paint::Flat {
-                color: self.rectangle_setup.color,
-            },
-            brush: self.rectangle_setup.brush,
-        };
-        let mut rows = ClipRectRows {
-            clip_rect: *self.clip_rect,
-        };
-        let mut drawer = SpanDrawer::new(&state);
-        draw_rows(vram, &mut rows, &mut drawer, steps);
-    }
-
-    /// Draws the cells of the clip rectangle. The rectangle must have no texture.
-    pub(crate) fn draw_flat<L: Ledger>(&self, vram: &mut Vram, steps: &mut Steps<L>)
-        requires can { CanDrawRectangle (height_of vram.old) self.now }
-        requires flat { self.now.rectangle_setup.now.texture ≡ None }
-        ensures { DrawsRectangle self.now
-            (record { m = vram.old; steps = steps.old }) (record { m = vram.new; steps = steps.new }) }
-    {
-        match solid_flat(self.rectangle_setup.color, &self.rectangle_setup.brush) {
-            Some(solid) => self.draw_solid(solid, vram, steps),
-            None => self.draw_spans(vram, steps),
+        let RectangleSetup {
+            color,
+            texture,
+            brush,
+            ..
+        } = self.rectangle_setup;
+        match texture {
+            Some(texture) => self.texels(texture).draw(vram, steps),
+            None => draw_flat_rectangle(vram, *color, brush, self.clip_rect, steps),
         }
     }
 }

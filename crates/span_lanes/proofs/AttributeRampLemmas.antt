@@ -11,9 +11,9 @@ use Rattle.span_lanes.specs.declared.attributes.ramps.CoordRamps.{CoordRamps}
 use Rattle.span_lanes.specs.declared.span.Paint.{Paint}
 use Rattle.span_lanes.specs.declared.span.Paint.TheVariants.{Flat, Shaded, TexturedTri, TexturedRow}
 use Rattle.span_lanes.specs.Draws.{IsChunk}
-use Rattle.span_lanes.specs.Lanes.{AreChannels, HasColors, HasCoordinates, colors_from, columns_from, rows_from}
+use Rattle.span_lanes.specs.Chunks.Lanes.{AreChannels, HasColors, HasCoordinates, colors_from, columns_from, rows_from}
 use Rattle.span_lanes.specs.Paints.{chunk_u, chunk_v}
-use Rattle.span_lanes.specs.AttributeRamps.{AreColorsOf, AreCoordRampsOf}
+use Rattle.span_lanes.specs.Attributes.AttributeRamps.{AreColorsOf, AreCoordRampsOf}
 use Rattle.span_lanes.specs.Shade.{attribute_in, color_in, AreInside, HasInside, IsSpan}
 use Rattle.span_lanes.proofs.ColorLemmas.{red_mixed, green_mixed, blue_mixed}
 use Rattle.span_lanes.proofs.ShadingLemmas.{first_cell}

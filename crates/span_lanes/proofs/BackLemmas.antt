@@ -3,7 +3,7 @@ use Rattle.std.proofs.Common.{◌≡◌, ℕ, ℤ, false, refl, inl, inr}
 use Rattle.vram_store.specs.Plot.{is_kept, is_testing}
 use Rattle.span_lanes.specs.declared.span.Brush.{Brush}
 use Rattle.span_lanes.specs.Shade.{flat_pixel, blended_if}
-use Rattle.span_lanes.specs.Lanes.{DoesFor}
+use Rattle.span_lanes.specs.Chunks.Lanes.{DoesFor}
 
 -- the pixel of a 24-bit colour without a texture
 pub flat_back : (brush : Brush) (color : ℕ) (shift : ℤ) (cell h : ℕ) → DoesFor brush cell h

@@ -19,7 +19,8 @@ use Rattle.vram_store.specs.Chunk.{AgreesApart, IsBlind}
 use Rattle.texel_lanes.specs.Texture.{at_cell, texel}
 use Rattle.span_lanes.specs.Shade.{IsSpan, row_u, paint_pixel, shade, flat_pixel, dither_of, color_in}
 use Rattle.span_lanes.specs.Shade.{attribute_in}
-use Rattle.span_lanes.specs.Guard.{paint_texel, paint_texels, target, clut_strip, clut_of, PaintHazard, HasHazard}
+use Rattle.span_lanes.specs.Hazard.Guard.{paint_texel, paint_texels, target, clut_strip, clut_of, PaintHazard}
+use Rattle.span_lanes.specs.Hazard.Guard.{HasHazard}
 
 -- a cell that none of j lanes of a row writes
 pub same_cell : (m now : List ℕ) (x y j cx cy : ℕ) → AgreesApart (1024 * y + x) j m now → cx < 1024 → x + j ≤ 1024

@@ -3,7 +3,7 @@ use Rattle.std.proofs.Common.{◌≡◌, ◌≤◌, ℕ, zero, suc, List, Option
 use Rattle.std.proofs.Common.{◌*◌, ◌/◌, min, refl, subst, add-one, arith}
 use Rattle.texel_lanes.specs.declared.texture.Texture.{Texture}
 use Rattle.span_lanes.specs.declared.span.Span.{Span}
-use Rattle.span_lanes.specs.Guard.{has_hazard, paint_texels, clut_of, target}
+use Rattle.span_lanes.specs.Hazard.Guard.{has_hazard, paint_texels, clut_of, target}
 use Rattle.span_lanes.specs.Shade.{texture_of}
 use Rattle.overlap_guard.specs.Hazard.{has_texture_hazard}
 use Rattle.px_num.specs.declared.shape.Cell.{Cell}

@@ -9,8 +9,8 @@ use Rattle.texture_page.specs.Page.{texel_place}
 use Rattle.overlap_guard.specs.Lanes.{lane_cells}
 use Rattle.span_lanes.specs.declared.span.Paint.{Paint}
 use Rattle.texel_lanes.specs.declared.texture.Texture.{Texture}
-use Rattle.span_lanes.specs.Lanes.{HasCoordinates, columns_from, rows_from}
-use Rattle.span_lanes.specs.Guard.{paint_texel, paint_texels, texel_cells}
+use Rattle.span_lanes.specs.Chunks.Lanes.{HasCoordinates, columns_from, rows_from}
+use Rattle.span_lanes.specs.Hazard.Guard.{paint_texel, paint_texels, texel_cells}
 
 -- two lists of n cells that are equal member by member
 mapped_same : (f g : ℕ → Cell) (first n : ℕ) → ((i : ℕ) → i < n → f (first + i) ≡ g i)

@@ -15,9 +15,9 @@ use Rattle.texel_lanes.specs.declared.texture.Texture.{Texture}
 use Rattle.span_lanes.specs.declared.span.Span.{Span}
 use Rattle.texel_lanes.specs.Texture.{IsTexture}
 use Rattle.span_lanes.specs.Shade.{IsSpan, texture_of}
-use Rattle.span_lanes.specs.Guard.{paint_texel, paint_texels, target, clut_of, page_width, IsHazardFree}
-use Rattle.span_lanes.specs.Guard.{LiesOutsideClut, LiesOutsidePage, LiesOutsideStrip}
-use Rattle.span_lanes.specs.HazardFree.{AreTexelsApart}
+use Rattle.span_lanes.specs.Hazard.Guard.{paint_texel, paint_texels, target, clut_of, page_width, IsHazardFree}
+use Rattle.span_lanes.specs.Hazard.Guard.{LiesOutsideClut, LiesOutsidePage, LiesOutsideStrip}
+use Rattle.span_lanes.specs.Hazard.HazardFree.{AreTexelsApart}
 
 -- a coordinate after the window is within the page
 pub windowed_small : (mask off v : ℕ) → mask ≤ 31 → windowed mask off v < 256

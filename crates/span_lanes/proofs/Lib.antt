@@ -1,4 +1,4 @@
-mod ColoredClutLemmas
+mod ModulatedClutLemmas
 mod ShadingLemmas
 mod TexelRunLemmas
 mod TriangleSetupLemmas
@@ -18,3 +18,7 @@ pub mod RowsHazardLemmas
 pub mod TexelLemmas
 pub mod TexelRowLemmas
 pub mod UntexturedLemmas
+pub mod RowLemmas
+pub mod RunLemmas
+pub mod WalkLemmas
+pub mod RectangleLemmas

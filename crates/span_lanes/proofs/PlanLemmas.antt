@@ -10,11 +10,11 @@ use Rattle.texel_lanes.specs.Texture.{texel, texel_steps}
 use Rattle.span_lanes.specs.Shade.{texture_of}
 use Rattle.span_lanes.specs.Cost.{chunk_cost}
 use Rattle.span_lanes.specs.Draws.{IsChunk}
-use Rattle.span_lanes.specs.Guard.{has_hazard, paint_texels, clut_of, target, IsHazardFree}
+use Rattle.span_lanes.specs.Hazard.Guard.{has_hazard, paint_texels, clut_of, target, IsHazardFree}
 use Rattle.texel_lanes.specs.Texels.{AreCoordinates}
-use Rattle.span_lanes.specs.Lanes.{HasCoordinates, columns_from, rows_from}
+use Rattle.span_lanes.specs.Chunks.Lanes.{HasCoordinates, columns_from, rows_from}
 use Rattle.span_lanes.specs.RowSetup.{HasTexels}
-use Rattle.span_lanes.specs.TexCoords.{coord_at, AreTexCoords}
+use Rattle.span_lanes.specs.Attributes.TexCoords.{coord_at, AreTexCoords}
 use Rattle.span_lanes.specs.Paints.{paint_u, paint_v, chunk_u, chunk_v}
 use Rattle.span_lanes.proofs.CostLemmas.{free_cost}
 

@@ -2,7 +2,7 @@
 use Rattle.std.proofs.Common.{◌≡◌, ◌≢◌, ◌<◌, ◌≤◌, ℕ, false, ◌+◌, ◌-◌, arith}
 use Rattle.texel_lanes.proofs.ContiguousLemmas.{open_window}
 use Rattle.span_lanes.specs.ClipRect.{IsInClip}
-use Rattle.span_lanes.specs.HazardFree.{AreTexelsApart}
+use Rattle.span_lanes.specs.Hazard.HazardFree.{AreTexelsApart}
 use Rattle.span_lanes.specs.TexelRows.{texel_row, texel_span}
 use Rattle.span_lanes.specs.declared.rows.texel_rows.TexelRows.{TexelRows}
 use Rattle.span_lanes.proofs.TexelRunLemmas.{rising}

@@ -8,7 +8,7 @@ use Rattle.span_lanes.specs.declared.attributes.shading.Shading.TheVariants.{One
 use Rattle.span_lanes.specs.declared.span.Paint.{Paint}
 use Rattle.span_lanes.specs.declared.span.Paint.TheVariants.{Flat, Shaded, TexturedTri, TexturedRow}
 use Rattle.span_lanes.specs.Shade.{HasInside, AreInside}
-use Rattle.span_lanes.specs.RowColors.{AreRowColors, AreRowColorsOf}
+use Rattle.span_lanes.specs.Attributes.RowColors.{AreRowColors, AreRowColorsOf}
 use Rattle.span_lanes.specs.SpanDrawer.{IsShadingFor, IsShadingOf}
 
 -- one colour

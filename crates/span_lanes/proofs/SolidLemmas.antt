@@ -11,7 +11,7 @@ use Rattle.span_lanes.specs.declared.span.Brush.{Brush}
 use Rattle.span_lanes.specs.declared.span.Paint.TheVariants.{Flat}
 use Rattle.span_lanes.specs.declared.span.Span.{Span}
 use Rattle.span_lanes.specs.Shade.{shade, blended_if, flat_pixel}
-use Rattle.span_lanes.specs.Lanes.{IsSolid}
+use Rattle.span_lanes.specs.Chunks.Lanes.{IsSolid}
 use Rattle.span_lanes.proofs.ColorLemmas.{no_shift}
 use Rattle.span_lanes.proofs.UntexturedLemmas.{toned_is}
 

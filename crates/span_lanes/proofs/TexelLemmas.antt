@@ -18,8 +18,8 @@ use Rattle.span_lanes.specs.declared.span.Span.{Span}
 use Rattle.texel_lanes.specs.Texture.{texel}
 use Rattle.span_lanes.specs.Shade.{texture_of, textured_pixel, blended_if, modulated_texel, is_high, dither_of}
 use Rattle.span_lanes.specs.Shade.{paint_pixel, shade}
-use Rattle.span_lanes.specs.Lanes.{IsDrawnOver}
-use Rattle.span_lanes.specs.Chunk.{chunk_place, drawn_chunk}
+use Rattle.span_lanes.specs.Chunks.Lanes.{IsDrawnOver}
+use Rattle.span_lanes.specs.Chunks.Chunk.{chunk_place, drawn_chunk}
 use Rattle.span_lanes.specs.RowSetup.{HasTexels}
 use Rattle.span_lanes.specs.Paints.{paint_color, paint_u, paint_v, chunk_u, chunk_v}
 

@@ -1,11 +1,11 @@
 -- Rows of texels in the rows of a clip rectangle.
 use Rattle.std.proofs.Common.{◌≡◌, ℕ, List, refl, subst, sym}
-use Rattle.span_lanes.specs.CachedClut.{CanColorClut, CanTakeTexels}
+use Rattle.span_lanes.specs.Clut.CachedClut.{CanModulateClut, CanTakeTexels}
 use Rattle.span_lanes.specs.Cells.{Stage}
 use Rattle.span_lanes.specs.Draws.{DrawsSpan}
 use Rattle.span_lanes.specs.Pattern.{run_span}
 use Rattle.span_lanes.specs.SpanDrawer.{DrawsCells}
-use Rattle.span_lanes.specs.Guard.{IsHazardFree}
+use Rattle.span_lanes.specs.Hazard.Guard.{IsHazardFree}
 use Rattle.span_lanes.specs.TexelRows.{AreRowsContiguous, CanCacheRows, CanDrawTexels, IsWholeRow}
 use Rattle.span_lanes.specs.TexelRows.{rows_pattern, texel_row, texel_span}
 use Rattle.span_lanes.specs.TexelRun.{IsTexelRun}
@@ -27,7 +27,7 @@ row_drawn s t before after is drawn =
 pub row_hazard_free : (rows : TexelRows) (y v : ℕ) (m : List ℕ) → AreRowsContiguous rows → CanDrawTexels rows y v m
     → IsHazardFree (texel_span rows y v)
 row_hazard_free rows y v m contiguous asked =
-    rw asked.row (contiguous.hazard_free.free y asked.in_block.top asked.in_block.bottom
+    rw asked.row (contiguous.hazard_free.free y asked.in_clip.top asked.in_clip.bottom
     (rw asked.row at asked.can.span))
 
 -- a contiguous row
@@ -42,7 +42,7 @@ can_take_row rows y v texel_run m contiguous asked finds = record {
 
 -- a row whose CLUT can be modulated once for all rows
 pub can_color_row : (d : ℕ) (rows : TexelRows) (y v : ℕ) (m : List ℕ) → CanCacheRows d rows
-    → CanDrawTexels rows y v m → CanColorClut d (texel_span rows y v) rows.texture rows.color m
+    → CanDrawTexels rows y v m → CanModulateClut d (texel_span rows y v) rows.texture rows.color m
 can_color_row d rows y v m keeps asked = record {
   sample = record { can = asked.can; texture = refl };
   suits = record {
@@ -50,5 +50,5 @@ can_color_row d rows y v m keeps asked = record {
     depth = keeps.depth;
     even = keeps.even;
   };
-  hue = λ at j lane lt. refl;
+  one_color = λ at j lane lt. refl;
 }

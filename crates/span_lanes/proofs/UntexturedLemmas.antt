@@ -11,7 +11,7 @@ use Rattle.span_lanes.specs.declared.span.Paint.{Paint}
 use Rattle.span_lanes.specs.declared.span.Paint.TheVariants.{Flat, Shaded, TexturedTri, TexturedRow}
 use Rattle.span_lanes.specs.declared.span.Span.{Span}
 use Rattle.span_lanes.specs.Shade.{texture_of, flat_pixel, blended_if, dither_of, paint_pixel, shade}
-use Rattle.span_lanes.specs.Lanes.{DoesFor}
+use Rattle.span_lanes.specs.Chunks.Lanes.{DoesFor}
 use Rattle.span_lanes.specs.Paints.{paint_color}
 use Rattle.span_lanes.proofs.BackLemmas.{kept_free}
 

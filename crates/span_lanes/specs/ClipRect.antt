@@ -1,6 +1,6 @@
 -- Clip rectangles.
 use Rattle.std.specs.Prelude.{ℕ, ◌≡◌, ◌+◌, ◌≤◌, ◌<◌, Some}
-use Rattle.span_lanes.specs.Guard.{IsHazardFree}
+use Rattle.span_lanes.specs.Hazard.Guard.{IsHazardFree}
 use Rattle.span_lanes.specs.declared.span.ClipRect.{ClipRect}
 use Rattle.span_lanes.specs.declared.span.Span.{Span}
 use Rattle.span_lanes.specs.Shade.{IsSpan, texture_of}

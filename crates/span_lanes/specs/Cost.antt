@@ -5,7 +5,7 @@ use Rattle.texel_lanes.specs.declared.texture.Texture.{Texture}
 use Rattle.texel_lanes.specs.Texture.{texel_steps}
 use Rattle.span_lanes.specs.declared.span.Span.{Span}
 use Rattle.span_lanes.specs.Shade.{texture_of}
-use Rattle.span_lanes.specs.Guard.{has_hazard}
+use Rattle.span_lanes.specs.Hazard.Guard.{has_hazard}
 
 -- the accesses for the texel of a pixel, if it has one
 abbrev pub texture_steps : Option Texture → ℕ

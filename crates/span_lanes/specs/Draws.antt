@@ -5,7 +5,7 @@ use Rattle.span_lanes.specs.declared.span.Chunk.{Chunk}
 use Rattle.span_lanes.specs.declared.span.Span.{Span}
 use Rattle.texel_lanes.specs.declared.texture.Texture.{Texture}
 use Rattle.span_lanes.specs.Cells.{Stage}
-use Rattle.span_lanes.specs.Chunk.{drawn_chunk}
+use Rattle.span_lanes.specs.Chunks.Chunk.{drawn_chunk}
 use Rattle.span_lanes.specs.Cost.{chunk_cost, span_cost}
 use Rattle.span_lanes.specs.Shade.{IsSpan, LiesIn, drawn_span, texture_of}
 

@@ -8,10 +8,10 @@ use Rattle.texel_lanes.specs.declared.texture.Texture.{Texture}
 use Rattle.span_lanes.specs.declared.span.Span.{Span}
 use Rattle.texel_lanes.specs.Texture.{texel}
 use Rattle.span_lanes.specs.Shade.{modulated_texel, dither_of, texture_of}
-use Rattle.span_lanes.specs.Guard.{IsHazardFree}
-use Rattle.span_lanes.specs.RowColors.{AreRowColors}
-use Rattle.span_lanes.specs.Lanes.{AreDitherLanesAt}
-use Rattle.span_lanes.specs.TexCoords.{AreTexCoords}
+use Rattle.span_lanes.specs.Hazard.Guard.{IsHazardFree}
+use Rattle.span_lanes.specs.Attributes.RowColors.{AreRowColors}
+use Rattle.span_lanes.specs.Chunks.Lanes.{AreDitherLanesAt}
+use Rattle.span_lanes.specs.Attributes.TexCoords.{AreTexCoords}
 use Rattle.span_lanes.specs.Paints.{paint_color, chunk_u, chunk_v}
 
 -- the colours of a textured span, and its dither offsets

@@ -1,9 +1,8 @@
 -- A paint and a brush for many spans.
-use Rattle.std.specs.Prelude.{ℕ, Option, None, IfSome, ◌≡◌, ◌≤◌, ◌+◌, length, pos, IsTrue}
+use Rattle.std.specs.Prelude.{ℕ, ◌≡◌, ◌≤◌, ◌+◌, length, pos, IsTrue}
 use Rattle.edge_walk.specs.Plane.{IsPlane}
 use Rattle.edge_walk.specs.Triangle.{Corners, is_inside}
 use Rattle.span_lanes.specs.declared.attributes.tex_coords.CoordPlanes.{CoordPlanes}
-use Rattle.span_lanes.specs.declared.span.Brush.{Brush}
 use Rattle.span_lanes.specs.declared.span.DrawState.{DrawState}
 use Rattle.span_lanes.specs.declared.span.Paint.{Paint}
 use Rattle.span_lanes.specs.declared.span.Paint.TheVariants.{Flat, Shaded, TexturedTri, TexturedRow}
@@ -12,7 +11,6 @@ use Rattle.span_lanes.specs.declared.attributes.shading.Shading.{Shading}
 use Rattle.span_lanes.specs.declared.attributes.shading.Shading.TheVariants.{OneColor, Planes}
 use Rattle.span_lanes.specs.Cells.{Stage, drawn_cells, row_cells}
 use Rattle.span_lanes.specs.Cost.{span_cost}
-use Rattle.span_lanes.specs.Lanes.{IsSolid}
 use Rattle.span_lanes.specs.Shade.{color_in, shade_at}
 
 -- a span that is drawn with a draw state
@@ -46,11 +44,3 @@ IsShadingFor (TexturedRow color texture u v flip) shading = shading ≡ OneColor
 pub record AreCoordPlanes (tri : Corners) (coord_planes : CoordPlanes) : Type 0 where
   pub u : IsPlane tri 3 coord_planes.u
   pub v : IsPlane tri 4 coord_planes.v
-
--- the halfword that all cells become, if there is one whatever they contain
-abbrev pub HasHalfword : Paint → Brush → Option ℕ → Type 0
-HasHalfword (Flat color) brush solid =
-    IfSome solid (λ h. (x y n : ℕ) → IsSolid (record { x = x; y = y; n = n; paint = Flat color; brush = brush }) h)
-HasHalfword (Shaded tri) brush solid = solid ≡ None
-HasHalfword (TexturedTri tri texture) brush solid = solid ≡ None
-HasHalfword (TexturedRow color texture u v flip) brush solid = solid ≡ None

@@ -2,8 +2,8 @@
 use Rattle.std.specs.Prelude.{ℕ, List, ◌≡◌, ◌≤◌, ◌+◌, ◌-◌, ◌<◌, ◌/◌, ◌&&◌, not, Bool, IsTrue, false}
 use Rattle.span_lanes.specs.Draws.{CanDraw}
 use Rattle.span_lanes.specs.ClipRect.{IsInClip}
-use Rattle.span_lanes.specs.ColoredClut256.{IsColoredClut256Of}
-use Rattle.span_lanes.specs.Guard.{IsHazardFree}
+use Rattle.span_lanes.specs.Clut.ModulatedClut256.{IsModulatedClut256Of}
+use Rattle.span_lanes.specs.Hazard.Guard.{IsHazardFree}
 use Rattle.span_lanes.specs.SpanDrawer.{state_span}
 use Rattle.span_lanes.specs.declared.span.DrawState.{DrawState}
 use Rattle.span_lanes.specs.declared.span.Paint.TheVariants.{TexturedRow}
@@ -31,7 +31,7 @@ texel_row rows y = row_u rows.v rows.falls (y - rows.clip_rect.y)
 -- row y of the clip rectangle can be drawn in video memory, and its texels are those of row v of the page
 pub record CanDrawTexels (rows : TexelRows) (y v : ℕ) (m : List ℕ) : Type 0 where
   pub can : CanDraw (texel_span rows y v) m
-  pub in_block : IsInClip rows.clip_rect rows.clip_rect.x y rows.clip_rect.w
+  pub in_clip : IsInClip rows.clip_rect rows.clip_rect.x y rows.clip_rect.w
   pub row : v ≡ texel_row rows y
 
 -- no row of the clip rectangle has a hazard
@@ -63,7 +63,7 @@ pub record CanCacheRows256 (rows : TexelRows) : Type 0 where
 
 -- once it is filled, the CLUT of 256 entries is that of the rows in video memory, modulated by their colour
 abbrev pub IsCached256 : TexelRows → (m : List ℕ) → (filled : Bool) → (words : List ℕ) → Type 0
-IsCached256 rows m filled words = IsTrue filled → IsColoredClut256Of rows.texture m rows.color words
+IsCached256 rows m filled words = IsTrue filled → IsModulatedClut256Of rows.texture m rows.color words
 
 -- what each row of the clip rectangle is drawn with
 abbrev pub rows_pattern : TexelRows → Pattern

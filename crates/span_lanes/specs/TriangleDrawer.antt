@@ -17,13 +17,13 @@ use Rattle.span_lanes.specs.declared.span.Paint.{Paint}
 use Rattle.span_lanes.specs.declared.span.Paint.TheVariants.{TexturedTri}
 use Rattle.span_lanes.specs.declared.span.Span.{Span}
 use Rattle.span_lanes.specs.Draws.{CanDraw}
-use Rattle.span_lanes.specs.Guard.{IsHazardFree}
+use Rattle.span_lanes.specs.Hazard.Guard.{IsHazardFree}
 use Rattle.span_lanes.specs.declared.attributes.shading.Shading.TheVariants.{OneColor}
 use Rattle.span_lanes.specs.ClipRect.{IsClipHazardFree}
 use Rattle.span_lanes.specs.SpanDrawer.{IsShadingFor, IsShadingOf}
-use Rattle.span_lanes.specs.AttributeRamps.{AreCoordRampsOf, AreAttributeRampsOf}
+use Rattle.span_lanes.specs.Attributes.AttributeRamps.{AreCoordRampsOf, AreAttributeRampsOf}
 use Rattle.span_lanes.specs.Shade.{texture_of}
-use Rattle.span_lanes.specs.TriangleSetup.{IsSetupOf}
+use Rattle.span_lanes.specs.Attributes.TriangleSetup.{IsSetupOf}
 
 -- the cells of a page's texels of any column, and those that are read with them, do not wrap
 pub record DoesNotWrap (t : Texture) : Type 0 where
@@ -38,7 +38,7 @@ pub record AreContiguous (tri : Corners) (t : Texture) : Type 0 where
   pub room : DoesNotWrap t
   pub unscaled : IsUnscaled tri
 
--- the CLUT can be coloured once under this colour, which is that of all cells, and the brush is opaque
+-- the CLUT can be modulated once by this colour, which is that of all cells, and the brush is opaque
 pub record CanCacheTriangle (tri : Corners) (t : Texture) (brush : Brush) (color : ℕ) : Type 0 where
   pub one : IsShadingOf tri (OneColor color)
   pub depth : t.page.depth ≡ 0
@@ -56,7 +56,7 @@ IsRowMethod tri t brush GouraudTexels = Unit {0}
 -- the same, in a clip rectangle in which no row has a hazard
 pub record SuitsMethod (tri : Corners) (t : Texture) (brush : Brush) (b : ClipRect) (method : RowMethod) : Type 0 where
   pub hazard_free : IsClipHazardFree b t
-  pub is_way : IsRowMethod tri t brush method
+  pub fits : IsRowMethod tri t brush method
 
 -- a span can be drawn in video memory and has no hazard
 pub record CanDrawRow (span : Span) (m : List ℕ) : Type 0 where

@@ -2,13 +2,13 @@
 ghost use Rattle.std.specs.Prelude.{ℕ, ◌≡◌, ◌≤◌, ◌<◌, ◌+◌, ◌⊎◌, ◌↔◌, Some, IsTrue, IfSome, ◌≢◌, ◌-◌, false};
 ghost use Rattle.texel_lanes.specs.Texture.{IsTexture};
 ghost use Rattle.span_lanes.specs.Shade.{IsSpan, texture_of};
-ghost use Rattle.span_lanes.specs.Guard.{IsHazardFree, LiesOutsideClut, LiesOutsideColumns, LiesOutsidePage};
-ghost use Rattle.span_lanes.specs.Guard.{LiesOutsideStrip, page_width, texel_cells, clut_of, clut_strip};
+ghost use Rattle.span_lanes.specs.Hazard.Guard.{IsHazardFree, LiesOutsideClut, LiesOutsideColumns, LiesOutsidePage};
+ghost use Rattle.span_lanes.specs.Hazard.Guard.{LiesOutsideStrip, page_width, texel_cells, clut_of, clut_strip};
 ghost use Rattle.span_lanes.specs.ClipRect.{IsClipRect, IsInClip, IsClipHazardFree};
 ghost use Rattle.overlap_guard.specs.Hazard.{HasTextureHazard, has_texture_hazard};
 ghost use Rattle.texel_lanes.specs.Texels.{AreCoordinates};
 ghost use Rattle.texture_page.specs.Page.{column, windowed};
-ghost use Rattle.span_lanes.specs.HazardFree.{AreColumnsApart, AreTexelsApart};
+ghost use Rattle.span_lanes.specs.Hazard.HazardFree.{AreColumnsApart, AreTexelsApart};
 ghost use Rattle.span_lanes.specs.Paints.{row_paint};
 ghost use Rattle.span_lanes.specs.TexelRun.{IsTexelRun};
 ghost use Rattle.span_lanes.specs.TexelRows.{AreRowsHazardFree, texel_row, texel_span};

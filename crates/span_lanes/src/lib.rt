@@ -1,4 +1,7 @@
-//! Spans: rows of cells, drawn up to sixteen cells at a time.
+//! Triangles and rectangles, drawn row by row, up to sixteen cells at a time.
+//!
+//! [`draw_triangle`] draws the cells of a box that are inside a triangle. [`draw_flat_rectangle`] and
+//! [`TexelRows::draw`] draw all cells of a clip rectangle. They choose how. [`draw_span`] draws one row.
 //!
 //! A span is one or more consecutive cells of a row, drawn from left to right. Every pixel reads video memory as it is
 //! when that pixel is drawn (our own rule). It reads its own cell if it is blended or tested, its texel, and the
@@ -15,23 +18,16 @@
 mod attributes;
 mod chunks;
 mod clut;
+mod figures;
 mod hazard;
 pub mod laws;
 mod rows;
 mod span;
 mod texels;
 
-pub use chunks::untextured::{draw_solid, solid_of};
-pub use clut::clut256::CachedClut256Rows;
-pub use rows::rectangle::{
-    AnyRows, CachedClutRows, ContiguousRows, RectangleDrawer, TexelRowsMethod,
-};
-pub use rows::row_drawer::RowDrawer;
-pub use rows::span_drawer::{SpanDrawer, draw_span};
-pub use rows::texel_rows::{RowAt, TexelRows, row_u};
-pub use rows::triangle::{
-    CachedClutMethod, ContiguousMethod, FlatTexelsMethod, GouraudTexelsMethod, RowMethod,
-    TexelMethod, TriangleDrawer, row_method,
-};
-pub use span::{Brush, ClipRect, DrawState, Paint, Run, Span};
+pub use figures::rectangle::draw_flat_rectangle;
+pub use figures::triangle::{TrianglePaint, TriangleState, draw_triangle};
+pub use rows::span_drawer::draw_span;
+pub use rows::texel_rows::{TexelRows, row_u};
+pub use span::{Brush, ClipRect, DrawState, Paint, Span};
 pub use texel_lanes::Texture;

@@ -4,7 +4,7 @@ ghost use Rattle.edge_walk.specs.Triangle.{is_inside};
 
 use edge_walk::Tri;
 use px_num::Vertex;
-use span_lanes::{Brush, Paint, Span, Texture, draw_span, laws};
+use span_lanes::{Brush, ClipRect, Paint, Span, TexelRows, Texture, draw_span, laws};
 use std::alloc::Global;
 use std::marker::Brand;
 use std::sync::ledger::{Blank, Ledger};
@@ -68,21 +68,22 @@ fn sampled<L: Ledger>(
         clut: row.clut,
         raw: true,
     };
-    let paint = Paint::TexturedRow {
+    let rows = TexelRows {
         color: 0,
         texture,
         u: row.u,
-        v: 0,
         flip: row.flip,
-    };
-    let span = Span {
-        x: row.x,
-        y: 0,
-        n: row.n,
-        paint,
+        v: 0,
+        falls: false,
         brush: PLAIN,
+        clip_rect: ClipRect {
+            x: row.x,
+            y: 0,
+            w: row.n,
+            h: 1,
+        },
     };
-    draw_span(&mut vram, &span, &mut steps);
+    rows.draw(&mut vram, &mut steps);
     Ok([
         vram.get(from, 0, &mut steps),
         vram.get(from + 1, 0, &mut steps),

@@ -12,8 +12,9 @@ ghost use Rattle.gathered_out.specs.Causes.{Causes, Fails};
 ghost use Rattle.gathered_out.specs.Puts.{BreaksWriting, holding};
 ghost use Rattle.gpu_capture.specs.Limit.{IsAtHand};
 ghost use Rattle.event_loop.specs.Pausing.{Pauses};
+ghost use Rattle.event_play.specs.Feeding.{AreSameLines};
 
-use crate::ending::{Ending, InMode, Mode, play_ending};
+use crate::ending::{Ending, Mode, play_ending};
 use crate::outlet::Lines;
 use crate::record_words::RecordWords;
 use crate::rig::Rig;
@@ -26,12 +27,11 @@ use gpu_taps::Listener;
 use std::sync::ledger::Ledger;
 use vram_store::Steps;
 
-/// A capture that is played: its reader, its source, and the mode of output.
+/// A capture that is played: its reader and its source.
 #[derive(Drop)]
-pub(crate) struct ModeCapture<'a, S: Source> {
+pub(crate) struct OpenCapture<'a, S: Source> {
     pub(crate) reader: &'a mut EventReader,
     pub(crate) source: &'a mut S,
-    pub(crate) mode: Mode,
 }
 
 impl Rig {
@@ -98,21 +98,17 @@ impl Rig {
     {
         let mut buffered = OutputBuffer::new();
         let lines = &mut Lines {
+            mode,
             buffered: &mut buffered,
             out,
         };
-        let capture = &mut ModeCapture {
-            reader,
-            source,
-            mode,
-        };
-        self.play_rest(capture, lines, taps, steps)
+        self.play_rest(&mut OpenCapture { reader, source }, lines, taps, steps)
     }
 
     /// Plays the rest of a capture, as `play_from` does. The buffer must be empty.
     pub(crate) fn play_rest<S: Source, K: Sink, T: Listener, L: Ledger>(
         &mut self,
-        capture: &mut ModeCapture<S>,
+        capture: &mut OpenCapture<S>,
         lines: &mut Lines<K>,
         taps: &mut Vec<T>,
         steps: &mut Steps<L>,
@@ -120,7 +116,7 @@ impl Rig {
         requires stop { capture.old.reader.now.stop ≡ None }
         requires empty { lines.old.buffered.now ≡ [] }
         ensures ends { (s : Machine) → Stands self.old s
-            → EndsPlay capture.old.mode (script_after (from_state s self.old.played) capture.old.reader.now.progress)
+            → EndsPlay lines.old.mode (script_after (from_state s self.old.played) capture.old.reader.now.progress)
             (streams (S.left capture.old.source.now) (K.held lines.old.out.now)
             (map T.heard taps.old.items) steps.old)
             (at_end (streams (S.left capture.new.source.now) (K.held lines.new.out.now)
@@ -132,10 +128,8 @@ impl Rig {
             (K.faults lines.old.out.now) (K.faults lines.new.out.now) }
         ensures reader { capture.new.reader.ghost_name ≡ capture.old.reader.ghost_name }
         ensures source { capture.new.source.ghost_name ≡ capture.old.source.ghost_name }
-        ensures buffered { lines.new.buffered.ghost_name ≡ lines.old.buffered.ghost_name }
-        ensures out { lines.new.out.ghost_name ≡ lines.old.out.ghost_name }
+        ensures same { AreSameLines lines.old lines.new }
     {
-        let mode = capture.mode;
         let mut words = RecordWords::new();
         let mut next = next_event(capture.reader, capture.source, lines.buffered);
         self.raise(capture.reader.version());
@@ -147,19 +141,17 @@ impl Rig {
                         Ok(offset) => since = offset,
                         Err(event) => return Ending::WriteFailed { event },
                     }
-                    let given = InMode { value: event, mode };
-                    let stopped = words.read(capture.reader, capture.source, given);
-                    let value = ReadEvent {
+                    let stopped = words.read(capture.reader, capture.source, event, lines.mode);
+                    let read = ReadEvent {
                         event: &event,
                         words: &words,
                     };
-                    if let Err(halt) = self.play_read(InMode { value, mode }, lines, taps, steps) {
+                    if let Err(halt) = self.play_read(read, lines, taps, steps) {
                         let ended = end_after(halt, lines.buffered, lines.out);
                         return play_ending(ended, self.next_number());
                     }
                     if let Err(stop) = stopped {
-                        let given = InMode { value: stop, mode };
-                        return self.end_reading(given, lines, taps, steps);
+                        return self.end_reading(stop, lines, taps, steps);
                     }
                     match write_before_event(capture.reader, capture.source, since, lines) {
                         Ok(offset) => since = offset,
@@ -167,10 +159,7 @@ impl Rig {
                     }
                     next = next_event(capture.reader, capture.source, lines.buffered);
                 }
-                Err(stop) => {
-                    let given = InMode { value: stop, mode };
-                    return self.end_reading(given, lines, taps, steps);
-                }
+                Err(stop) => return self.end_reading(stop, lines, taps, steps),
             }
         }
     }
@@ -193,8 +182,7 @@ pub(crate) fn write_before_words<K: Sink>(
     ensures failed { IfErr result (BreaksWriting (K.held lines.old.out.now) (K.held lines.new.out.now)
         lines.old.buffered.now) }
     ensures causes { Causes (Fails result) (K.faults lines.old.out.now) (K.faults lines.new.out.now) }
-    ensures buffered { lines.new.buffered.ghost_name ≡ lines.old.buffered.ghost_name }
-    ensures out { lines.new.out.ghost_name ≡ lines.old.out.ghost_name }
+    ensures same { AreSameLines lines.old lines.new }
 {
     if reader.offset() >= since.saturating_add(BLOCK) {
         match lines.buffered.write(lines.out) {
@@ -221,8 +209,7 @@ pub(crate) fn write_before_event<S: Source, K: Sink>(
     ensures failed { IfErr result (BreaksWriting (K.held lines.old.out.now) (K.held lines.new.out.now)
         lines.old.buffered.now) }
     ensures causes { Causes (Fails result) (K.faults lines.old.out.now) (K.faults lines.new.out.now) }
-    ensures buffered { lines.new.buffered.ghost_name ≡ lines.old.buffered.ghost_name }
-    ensures out { lines.new.out.ghost_name ≡ lines.old.out.ghost_name }
+    ensures same { AreSameLines lines.old lines.new }
 {
     write_at_pause(reader, source, since, lines.buffered, lines.out)
 }

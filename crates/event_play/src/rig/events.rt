@@ -1,15 +1,15 @@
 // Plays the events of a capture, with their output.
-ghost use Rattle.std.specs.Prelude.{◌≡◌, map};
+ghost use Rattle.std.specs.Prelude.{map};
 ghost use Rattle.event_loop.specs.Halting.{FailsWriting};
 ghost use Rattle.gathered_out.specs.Causes.{Causes};
 ghost use Rattle.event_play.specs.Ends.{PlaysOrEnds};
 ghost use Rattle.event_play.specs.PlayState.{play_state};
 ghost use Rattle.event_play.specs.Reading.{PlaysRead};
 ghost use Rattle.event_play.specs.Streams.{buffering, outlets};
+ghost use Rattle.event_play.specs.Feeding.{AreSameLines};
 
-use crate::ending::{EventInMode, InEvent, InMode};
 use crate::fault::EventFault;
-use crate::feed::feed_word;
+use crate::feed::{InEvent, feed_word};
 use crate::film::Played;
 use crate::finals::write_after;
 use crate::outlet::Lines;
@@ -37,12 +37,12 @@ impl Rig {
     /// output is incomplete; the words are all played nevertheless.
     pub(crate) fn play_read<K: Sink, T: Listener, L: Ledger>(
         &mut self,
-        read: InMode<ReadEvent>,
+        read: ReadEvent,
         lines: &mut Lines<K>,
         taps: &mut Vec<T>,
         steps: &mut Steps<L>,
     ) -> Result<(), Halt<EventFault>>
-        ensures plays { PlaysRead read.entry.mode read.entry.value.event.now read.entry.value.words.now
+        ensures plays { PlaysRead lines.old.mode read.entry.event.now read.entry.words.now
             (play_state (buffering lines.old.buffered.now
             (outlets (K.held lines.old.out.now) (K.faults lines.old.out.now)
             (map T.heard taps.old.items) steps.old)) self.old)
@@ -50,17 +50,13 @@ impl Rig {
             (outlets (K.held lines.new.out.now) (K.faults lines.new.out.now)
             (map T.heard taps.new.items) steps.new)) self.new) result }
         ensures causes { Causes (FailsWriting result) (K.faults lines.old.out.now) (K.faults lines.new.out.now) }
-        ensures buffered { lines.new.buffered.ghost_name ≡ lines.old.buffered.ghost_name }
-        ensures out { lines.new.out.ghost_name ≡ lines.old.out.ghost_name }
+        ensures same { AreSameLines lines.old lines.new }
     {
-        let ReadEvent { event, words } = read.value;
-        let mode = read.mode;
-        let words = words.as_slice();
+        let words = read.words.as_slice();
         if words.is_empty() {
-            let value = *event;
-            return self.play_event(InMode { value, mode }, lines, taps, steps);
+            return self.play_event(*read.event, lines, taps, steps);
         }
-        match self.play_words(InMode { value: words, mode }, lines, taps, steps) {
+        match self.play_words(words, lines, taps, steps) {
             Ok(()) => Ok(()),
             Err(event) => Err(Halt::Lacks { event }),
         }
@@ -70,24 +66,22 @@ impl Rig {
     // number of the first event whose output is incomplete.
     fn play_event<K: Sink, T: Listener, L: Ledger>(
         &mut self,
-        event: InMode<Event>,
+        event: Event,
         lines: &mut Lines<K>,
         taps: &mut Vec<T>,
         steps: &mut Steps<L>,
     ) -> Result<(), Halt<EventFault>>
-        ensures plays { PlaysOrEnds event.mode event.value
+        ensures plays { PlaysOrEnds lines.old.mode event
             (play_state (buffering lines.old.buffered.now
             (outlets (K.held lines.old.out.now) (K.faults lines.old.out.now)
             (map T.heard taps.old.items) steps.old)) self.old)
             (play_state (buffering lines.new.buffered.now
             (outlets (K.held lines.new.out.now) (K.faults lines.new.out.now)
             (map T.heard taps.new.items) steps.new)) self.new) result }
-        ensures buffered { lines.new.buffered.ghost_name ≡ lines.old.buffered.ghost_name }
-        ensures out { lines.new.out.ghost_name ≡ lines.old.out.ghost_name }
+        ensures same { AreSameLines lines.old lines.new }
     {
-        let mode = event.mode;
-        match event.value {
-            Event::Gp0 { word } => self.play_word(InMode { value: word, mode }, lines, taps, steps),
+        match event {
+            Event::Gp0 { word } => self.play_word(word, lines, taps, steps),
             _ => self.play_lines(event, lines, taps, steps),
         }
     }
@@ -96,29 +90,24 @@ impl Rig {
     // changes only the GPU and the number of events.
     fn play_word<K: Sink, T: Listener, L: Ledger>(
         &mut self,
-        word: InMode<u32>,
+        word: u32,
         lines: &mut Lines<K>,
         taps: &mut Vec<T>,
         steps: &mut Steps<L>,
     ) -> Result<(), Halt<EventFault>>
-        ensures plays { PlaysOrEnds word.mode (Event.Gp0 word.value)
+        ensures plays { PlaysOrEnds lines.old.mode (Event.Gp0 word)
             (play_state (buffering lines.old.buffered.now
             (outlets (K.held lines.old.out.now) (K.faults lines.old.out.now)
             (map T.heard taps.old.items) steps.old)) self.old)
             (play_state (buffering lines.new.buffered.now
             (outlets (K.held lines.new.out.now) (K.faults lines.new.out.now)
             (map T.heard taps.new.items) steps.new)) self.new) result }
-        ensures buffered { lines.new.buffered.ghost_name ≡ lines.old.buffered.ghost_name }
-        ensures out { lines.new.out.ghost_name ≡ lines.old.out.ghost_name }
+        ensures same { AreSameLines lines.old lines.new }
     {
         let number = self.next_number();
-        let event_in_mode = EventInMode {
-            number,
-            mode: word.mode,
-        };
         let given = InEvent {
-            event_in_mode,
-            value: word.value,
+            number,
+            value: word,
         };
         match feed_word(&mut self.gpu, given, lines, taps, steps) {
             Ok(()) => {
@@ -132,32 +121,27 @@ impl Rig {
     // Plays any event, as `play_event` does.
     fn play_lines<K: Sink, T: Listener, L: Ledger>(
         &mut self,
-        event: InMode<Event>,
+        event: Event,
         lines: &mut Lines<K>,
         taps: &mut Vec<T>,
         steps: &mut Steps<L>,
     ) -> Result<(), Halt<EventFault>>
-        ensures plays { PlaysOrEnds event.mode event.value
+        ensures plays { PlaysOrEnds lines.old.mode event
             (play_state (buffering lines.old.buffered.now
             (outlets (K.held lines.old.out.now) (K.faults lines.old.out.now)
             (map T.heard taps.old.items) steps.old)) self.old)
             (play_state (buffering lines.new.buffered.now
             (outlets (K.held lines.new.out.now) (K.faults lines.new.out.now)
             (map T.heard taps.new.items) steps.new)) self.new) result }
-        ensures buffered { lines.new.buffered.ghost_name ≡ lines.old.buffered.ghost_name }
-        ensures out { lines.new.out.ghost_name ≡ lines.old.out.ghost_name }
+        ensures same { AreSameLines lines.old lines.new }
     {
         let number = self.next_number();
-        let operation = match validate(&event.value, &mut self.walk, &self.ram, self.running) {
+        let operation = match validate(&event, &mut self.walk, &self.ram, self.running) {
             Ok(operation) => operation,
             Err(why) => return Err(Halt::Refuses { why }),
         };
-        let event_in_mode = EventInMode {
-            number,
-            mode: event.mode,
-        };
         let given = InEvent {
-            event_in_mode,
+            number,
             value: operation,
         };
         match self.perform(given, lines, taps, steps) {
@@ -165,11 +149,11 @@ impl Rig {
             Ok(shown) => {
                 self.played = number;
                 let played = Played {
-                    event: event.value,
+                    event,
                     number,
                     shown,
                 };
-                let Ok(()) = write_after(&self.gpu, played, lines.out, event.mode, steps) else {
+                let Ok(()) = write_after(&self.gpu, played, lines.out, lines.mode, steps) else {
                     return Err(Halt::Lacks { event: number });
                 };
                 Ok(())

@@ -15,8 +15,8 @@ ghost use Rattle.event_play.specs.Stepping.{HasStepped, numbered};
 ghost use Rattle.event_play.specs.Streams.{without_sink};
 ghost use Rattle.event_play.specs.Operation.{operation_of, IsOperation};
 
-use crate::ending::{EventInMode, InEvent, Mode};
 use crate::fault::EventFault;
+use crate::feed::InEvent;
 use crate::operation::Operation;
 use crate::outlet::NoLines;
 use crate::validate::validate;
@@ -114,17 +114,14 @@ impl Rig {
         }
         match validate(event, &mut self.walk, &self.ram, self.running) {
             Ok(operation) => {
-                let event_in_mode = EventInMode {
-                    number: self.next_number(),
-                    mode: Mode::Vram,
-                };
+                let number = self.next_number();
                 let given = InEvent {
-                    event_in_mode,
+                    number,
                     value: operation,
                 };
                 match self.perform(given, &mut NoLines {}, taps, steps) {
                     Ok(shown) => {
-                        self.played = event_in_mode.number;
+                        self.played = number;
                         Ok(shown)
                     }
                     Err(_) => unreachable!(),

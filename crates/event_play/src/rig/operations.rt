@@ -1,6 +1,7 @@
 // Performs the operation of an event.
 ghost use Rattle.std.specs.Prelude.{◌≡◌, None, map, Ok, Err, ◌≤◌, ◌+◌, ℕ};
 ghost use Rattle.event_play.specs.Does.{Performs, PutsOperation};
+ghost use Rattle.event_play.specs.Feeding.{in_event};
 ghost use Rattle.event_play.specs.RigState.{Stands, machine_of};
 ghost use Rattle.event_play.specs.PlayState.{play_state};
 ghost use Rattle.event_play.specs.Step.{done, operation_cost};
@@ -13,8 +14,7 @@ ghost use Rattle.event_play.specs.Taken.{taken};
 ghost use Rattle.event_play.specs.Taking.{Takes};
 
 use crate::block::{Block, address_in};
-use crate::ending::InEvent;
-use crate::feed::feed;
+use crate::feed::{InEvent, feed};
 use crate::operation::Operation;
 use crate::outlet::Outlet;
 use crate::rig::Rig;
@@ -37,10 +37,10 @@ impl Rig {
         steps: &mut Steps<L>,
     ) -> Result<Option<u32>, u64>
         requires { IsOperation operation.value }
-        ensures performs { Performs operation.event_in_mode operation.value
+        ensures performs { Performs (in_event operation.number (O.mode lines.old)) operation.value
             (play_state (with_sink (O.state lines.old) (map T.heard taps.old.items) steps.old) self.old)
             (play_state (with_sink (O.state lines.new) (map T.heard taps.new.items) steps.new) self.new) result }
-        ensures puts { PutsOperation operation.event_in_mode operation.value
+        ensures puts { PutsOperation (in_event operation.number (O.mode lines.old)) operation.value
             (play_state (with_sink (O.state lines.old) (map T.heard taps.old.items) steps.old) self.old)
             (play_state (with_sink (O.state lines.new) (map T.heard taps.new.items) steps.new) self.new) result }
         ensures same { O.same lines.old lines.new }
@@ -48,7 +48,7 @@ impl Rig {
         match operation.value {
             Operation::Feed { words, next } => {
                 let given = InEvent {
-                    event_in_mode: operation.event_in_mode,
+                    number: operation.number,
                     value: WordCursor::new(&self.ram, words),
                 };
                 match feed(&mut self.gpu, given, lines, taps, steps) {

@@ -12,10 +12,11 @@ ghost use Rattle.gathered_out.specs.Puts.{holding};
 ghost use Rattle.gpu_core.specs.Feeds.{but_pixels};
 ghost use Rattle.event_play.specs.Lines.{MayBuffer};
 ghost use Rattle.event_play.specs.Listing.{PutsPieces, listed_pieces, pieces_for};
+ghost use Rattle.event_play.specs.Feeding.{AreSameLines};
 
-use crate::ending::{InMode, Mode};
+use crate::ending::Mode;
 use crate::feed::{EventWords, feed_events};
-use crate::outlet::{Lines, put_listed};
+use crate::outlet::{Lines, Outlet, put_listed};
 use crate::rig::Rig;
 use dev_io::Sink;
 use gp0_packets::Note;
@@ -66,35 +67,31 @@ impl Rig {
     /// nevertheless.
     pub(crate) fn play_words<K: Sink, T: Listener, L: Ledger>(
         &mut self,
-        words: InMode<&[u32]>,
+        words: &[u32],
         lines: &mut Lines<K>,
         taps: &mut Vec<T>,
         steps: &mut Steps<L>,
     ) -> Result<(), u64>
         ensures told { (t : Replay) (first : Outlets)
             → IsTold t first (without_sink (map T.heard taps.old.items) steps.old) self.old.gpu self.old.played
-            → IsTold (after_words t words.entry.value.now) first (without_sink (map T.heard taps.new.items) steps.new)
+            → IsTold (after_words t words.now) first (without_sink (map T.heard taps.new.items) steps.new)
             self.new.gpu self.new.played }
         ensures puts { (t : Replay) (first : Outlets)
             → IsTold t first (without_sink (map T.heard taps.old.items) steps.old) self.old.gpu self.old.played
-            → PutsPieces (pieces_for words.entry.mode (word_notes t words.entry.value.now))
+            → PutsPieces (pieces_for lines.old.mode (word_notes t words.now))
             (holding (K.held lines.old.out.now) lines.old.buffered.now)
             (holding (K.held lines.new.out.now) lines.new.buffered.now) result }
-        ensures free { MayBuffer words.entry.mode lines.old.buffered.now
-            → MayBuffer words.entry.mode lines.new.buffered.now }
+        ensures free { MayBuffer lines.old.mode lines.old.buffered.now
+            → MayBuffer lines.old.mode lines.new.buffered.now }
         ensures ram { self.new.ram ≡ self.old.ram }
         ensures running { self.new.running ≡ self.old.running }
         ensures causes { Causes (Fails result) (K.faults lines.old.out.now) (K.faults lines.new.out.now) }
-        ensures buffered { lines.new.buffered.ghost_name ≡ lines.old.buffered.ghost_name }
-        ensures out { lines.new.out.ghost_name ≡ lines.old.out.ghost_name }
+        ensures same { AreSameLines lines.old lines.new }
     {
         let played = self.played;
-        let fed = EventWords {
-            played,
-            words: words.value,
-        };
-        self.played = played.saturating_add(fed.words.len() as u64);
-        match words.mode {
+        self.played = played.saturating_add(words.len() as u64);
+        let fed = EventWords { played, words };
+        match lines.mode {
             Mode::List => list_events(&mut self.gpu, fed, lines, taps, steps),
             _ => {
                 feed_events(&mut self.gpu, fed, taps, steps);
@@ -124,8 +121,7 @@ fn list_events<K: Sink, T: Listener, L: Ledger>(
         (holding (K.held lines.old.out.now) lines.old.buffered.now)
         (holding (K.held lines.new.out.now) lines.new.buffered.now) result }
     ensures causes { Causes (Fails result) (K.faults lines.old.out.now) (K.faults lines.new.out.now) }
-    ensures buffered { lines.new.buffered.ghost_name ≡ lines.old.buffered.ghost_name }
-    ensures out { lines.new.out.ghost_name ≡ lines.old.out.ghost_name }
+    ensures same { AreSameLines lines.old lines.new }
 {
     let mut at = 0;
     'words: while at < fed.words.len() {

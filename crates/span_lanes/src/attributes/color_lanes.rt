@@ -3,7 +3,7 @@ ghost use Rattle.std.specs.Prelude.{◌≡◌, ◌≤◌, ◌<◌, ◌+◌, ◌/
 ghost use Rattle.std.specs.Prelude.{slice_index_or};
 ghost use Rattle.blend_dither.specs.Color.{dither_offset, tone_of, modulated_of};
 ghost use Rattle.px_num.specs.Lanes.{EachLane};
-ghost use Rattle.span_lanes.specs.Lanes.{AreChannels, HasColors, AreDitherLanes, AreDitherLanesAt};
+ghost use Rattle.span_lanes.specs.Chunks.Lanes.{AreChannels, HasColors, AreDitherLanes, AreDitherLanesAt};
 
 use crate::Span;
 use crate::span::Chunk;
@@ -150,7 +150,7 @@ pub(crate) fn undithered_by(texels: u16x16, colors: ColorLanes) -> u16x16
 // Computes the colours of a span's cells, chunk by chunk.
 pub(crate) trait ColorSource {
     ghost use Rattle.span_lanes.specs.Draws.{IsChunk};
-    ghost use Rattle.span_lanes.specs.Lanes.{HasColors, colors_from};
+    ghost use Rattle.span_lanes.specs.Chunks.Lanes.{HasColors, colors_from};
     ghost use Rattle.span_lanes.specs.Shade.{IsSpan};
     ghost use Rattle.span_lanes.specs.declared.span.Span.{Span};
 

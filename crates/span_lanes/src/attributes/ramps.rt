@@ -3,7 +3,8 @@ ghost use Rattle.std.specs.Prelude.{◌≡◌, ◌+◌};
 ghost use Rattle.edge_walk.specs.AttributeSetup.{IsAttributeSetup};
 ghost use Rattle.edge_walk.specs.Held.{divisor_for};
 ghost use Rattle.edge_walk.specs.Triangle.{Corners};
-ghost use Rattle.span_lanes.specs.AttributeRamps.{AreColorsOf, AreColorRamps, AreCoordRamps, AreCoordRampsOf};
+ghost use Rattle.span_lanes.specs.Attributes.AttributeRamps.{AreColorsOf, AreColorRamps, AreCoordRamps};
+ghost use Rattle.span_lanes.specs.Attributes.AttributeRamps.{AreCoordRampsOf};
 
 use crate::Texture;
 use crate::attributes::color_lanes::{ColorLanes, ColorSource};

@@ -7,8 +7,8 @@ ghost use Rattle.edge_walk.specs.Line.{line_value};
 ghost use Rattle.edge_walk.specs.Plane.{IsPlane};
 ghost use Rattle.edge_walk.specs.Triangle.{Corners, is_inside};
 ghost use Rattle.span_lanes.specs.Shade.{IsSpan};
-ghost use Rattle.span_lanes.specs.RowColors.{color_at_cell, AreRowColors, AreRowColorsOf, IsLineOf};
-ghost use Rattle.span_lanes.specs.Lanes.{HasColors};
+ghost use Rattle.span_lanes.specs.Attributes.RowColors.{color_at_cell, AreRowColors, AreRowColorsOf, IsLineOf};
+ghost use Rattle.span_lanes.specs.Chunks.Lanes.{HasColors};
 ghost use Rattle.span_lanes.specs.RowSetup.{IsRowShading};
 
 use crate::attributes::color_lanes::{ColorLanes, ColorSource, DitherLanes, dither_lanes_of};

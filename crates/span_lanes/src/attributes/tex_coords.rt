@@ -6,7 +6,7 @@ ghost use Rattle.edge_walk.specs.Triangle.{Corners, is_inside};
 ghost use Rattle.span_lanes.specs.SpanDrawer.{AreCoordPlanes};
 ghost use Rattle.span_lanes.specs.Shade.{attribute_in, row_u};
 ghost use Rattle.texel_lanes.specs.Texels.{AreCoordinates};
-ghost use Rattle.span_lanes.specs.TexCoords.{coord_at, IsCoordAlong};
+ghost use Rattle.span_lanes.specs.Attributes.TexCoords.{coord_at, IsCoordAlong};
 
 use crate::Texture;
 use crate::attributes::shading::line_of;
@@ -160,7 +160,7 @@ pub(crate) fn tex_coord_lanes(coords: &TexCoords, first: u16) -> Coordinates
 }
 
 impl CoordSource for TexCoords {
-    ghost use Rattle.span_lanes.specs.TexCoords.{AreTexCoords};
+    ghost use Rattle.span_lanes.specs.Attributes.TexCoords.{AreTexCoords};
 
     ghost places = { λ coords s. AreTexCoords s.paint s.x s.y s.n coords };
 
@@ -171,7 +171,7 @@ impl CoordSource for TexCoords {
 }
 
 impl IndexSampler for TexCoords {
-    ghost use Rattle.span_lanes.specs.TexCoords.{AreTexCoords};
+    ghost use Rattle.span_lanes.specs.Attributes.TexCoords.{AreTexCoords};
 
     ghost finds = { λ coords s t. AreTexCoords s.paint s.x s.y s.n coords };
 

@@ -2,7 +2,7 @@
 ghost use Rattle.std.specs.Prelude.{◌≡◌};
 ghost use Rattle.edge_walk.specs.Held.{divisor_for};
 ghost use Rattle.span_lanes.specs.SpanDrawer.{IsShadingOf};
-ghost use Rattle.span_lanes.specs.TriangleSetup.{IsSetupFor};
+ghost use Rattle.span_lanes.specs.Attributes.TriangleSetup.{IsSetupFor};
 
 use crate::attributes::shading::{Shading, triangle_shading};
 use crate::attributes::tex_coords::{CoordPlanes, coord_planes_of};

@@ -2,9 +2,9 @@
 ghost use Rattle.std.specs.Prelude.{◌≡◌, ◌≤◌, ◌<◌, ◌+◌, ◌||◌, ℕ, length, slice_index, ◌==◌, ◌&&◌, if◌then◌else◌};
 ghost use Rattle.std.specs.Prelude.{false, IsTrue};
 ghost use Rattle.vram_store.specs.Plot.{is_testing};
-ghost use Rattle.span_lanes.specs.Chunk.{chunk_place};
+ghost use Rattle.span_lanes.specs.Chunks.Chunk.{chunk_place};
 ghost use Rattle.span_lanes.specs.Draws.{CanDraw, IsChunk};
-ghost use Rattle.span_lanes.specs.Lanes.{DoesFor};
+ghost use Rattle.span_lanes.specs.Chunks.Lanes.{DoesFor};
 ghost use Rattle.blend_dither.specs.Color.{packed_pixel};
 ghost use Rattle.px_num.specs.Lanes.{EachLane};
 ghost use Rattle.vram_store.specs.Vram.{bit};

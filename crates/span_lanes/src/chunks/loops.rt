@@ -2,9 +2,9 @@
 ghost use Rattle.std.specs.Prelude.{ℕ, List, ◌≡◌, ◌≤◌, ◌+◌, ◌*◌, length, min, IsTrue, true, false};
 ghost use Rattle.span_lanes.specs.Draws.{CanDraw, DrawsChunk, DrawsSpan, IsChunk, at_stage};
 ghost use Rattle.vram_store.specs.Chunk.{AgreesApart};
-ghost use Rattle.span_lanes.specs.Chunk.{chunk_place, drawn_chunk, HasChunk};
+ghost use Rattle.span_lanes.specs.Chunks.Chunk.{chunk_place, drawn_chunk, HasChunk};
 ghost use Rattle.span_lanes.specs.Cost.{paint_steps};
-ghost use Rattle.span_lanes.specs.Guard.{HasHazard};
+ghost use Rattle.span_lanes.specs.Hazard.Guard.{HasHazard};
 
 use crate::span::cell::draw_cell;
 use crate::span::{Chunk, is_opaque, opaque};

@@ -2,11 +2,11 @@
 ghost use Rattle.std.specs.Prelude.{◌≡◌, ◌≤◌, ◌+◌, length, slice_index, ◌&&◌, not, false};
 ghost use Rattle.px_num.specs.Lanes.{EachLane};
 ghost use Rattle.vram_store.specs.Chunk.{AgreesApart};
-ghost use Rattle.span_lanes.specs.Chunk.{chunk_place, drawn_chunk, HasChunk};
+ghost use Rattle.span_lanes.specs.Chunks.Chunk.{chunk_place, drawn_chunk, HasChunk};
 ghost use Rattle.span_lanes.specs.Draws.{CanSample, IsChunk};
-ghost use Rattle.span_lanes.specs.Guard.{HasHazard};
+ghost use Rattle.span_lanes.specs.Hazard.Guard.{HasHazard};
 ghost use Rattle.span_lanes.specs.RowSetup.{AreDrawn, IsRowShading, HasTexels, AreModulated};
-ghost use Rattle.span_lanes.specs.Lanes.{IsDrawnOver, AreDitherLanesAt};
+ghost use Rattle.span_lanes.specs.Chunks.Lanes.{IsDrawnOver, AreDitherLanesAt};
 ghost use Rattle.span_lanes.specs.Shade.{IsSpan};
 
 use crate::Texture;
@@ -14,7 +14,7 @@ use crate::attributes::color_lanes::{ColorSource, DitherLanes, undithered_by};
 use crate::attributes::shading::{RowShading, is_dithered};
 use crate::chunks::blended::blended_of_texels;
 use crate::chunks::loops::{ChunkDrawer, store_chunk};
-use crate::clut::modulated::{ColoredClut, ModulatedTexels, modulated_texels, texels_by_index};
+use crate::clut::modulated::{ModulatedClut, ModulatedTexels, modulated_texels, texels_by_index};
 use crate::span::Chunk;
 use crate::texels::sampler::{IndexSampler, Sampler};
 use px_num::lanes::{are_zero, splat, where_equal};
@@ -135,12 +135,12 @@ pub(crate) struct ShadedTexels<S> {
 pub(crate) struct CachedClut<'a, S> {
     pub(crate) texture: Texture,
     pub(crate) sampler: S,
-    pub(crate) colored_clut: &'a ColoredClut,
+    pub(crate) modulated_clut: &'a ModulatedClut,
 }
 
 impl<S: Sampler> ChunkDrawer for Raw<S> {
     ghost use Rattle.std.specs.Prelude.{◌≡◌, true};
-    ghost use Rattle.span_lanes.specs.CachedClut.{CanTakeTexels};
+    ghost use Rattle.span_lanes.specs.Clut.CachedClut.{CanTakeTexels};
 
     ghost serves = { λ c s m. CanTakeTexels s c.texture (S.finds c.sampler s c.texture) m × (c.texture.raw ≡ true) };
 
@@ -160,7 +160,7 @@ impl<S: Sampler> ChunkDrawer for Raw<S> {
 }
 
 impl<S: Sampler> ChunkDrawer for ShadedTexels<S> {
-    ghost use Rattle.span_lanes.specs.CachedClut.{CanTakeTexels};
+    ghost use Rattle.span_lanes.specs.Clut.CachedClut.{CanTakeTexels};
     ghost use Rattle.span_lanes.specs.RowSetup.{IsRowShading};
 
     ghost serves = { λ c s m.
@@ -178,9 +178,9 @@ impl<S: Sampler> ChunkDrawer for ShadedTexels<S> {
 }
 
 impl<S: IndexSampler> ChunkDrawer for CachedClut<'_, S> {
-    ghost use Rattle.span_lanes.specs.CachedClut.{CanUseCached};
+    ghost use Rattle.span_lanes.specs.Clut.CachedClut.{CanUseCached};
 
-    ghost serves = { λ c s m. CanUseCached s c.texture (S.finds c.sampler s c.texture) c.colored_clut.now m };
+    ghost serves = { λ c s m. CanUseCached s c.texture (S.finds c.sampler s c.texture) c.modulated_clut.now m };
 
     // The CLUT is not read again.
     ghost spared = { λ c k. 1 };
@@ -188,7 +188,7 @@ impl<S: IndexSampler> ChunkDrawer for CachedClut<'_, S> {
     #[inline(always)]
     fn draw_chunk<L: Ledger>(&self, vram: &mut Vram, chunk: &Chunk, steps: &mut Steps<L>) {
         let index = self.sampler.read_indexes(vram, &self.texture, chunk, steps);
-        let drawn = texels_by_index(self.colored_clut, self.texture.raw, index);
+        let drawn = texels_by_index(self.modulated_clut, self.texture.raw, index);
         if !S::SKIPS_EMPTY_CHUNKS || !are_zero(drawn.texels) {
             draw_texels(vram, &self.texture, drawn, chunk, steps);
         }

@@ -4,14 +4,14 @@ ghost use Rattle.std.specs.Prelude.{ℕ, ◌&&◌, ◌||◌, not, IfSome};
 ghost use Rattle.blend_dither.specs.Color.{tone_of};
 ghost use Rattle.px_num.specs.Lanes.{EachLane};
 ghost use Rattle.span_lanes.specs.declared.attributes.shading.RowColors.TheVariants.{One};
-ghost use Rattle.span_lanes.specs.AttributeRamps.{AreColorsOf};
-ghost use Rattle.span_lanes.specs.Chunk.{HasChunk};
+ghost use Rattle.span_lanes.specs.Attributes.AttributeRamps.{AreColorsOf};
+ghost use Rattle.span_lanes.specs.Chunks.Chunk.{HasChunk};
 ghost use Rattle.span_lanes.specs.Draws.{CanDraw, IsChunk, DrawsSpan, at_stage};
 ghost use Rattle.span_lanes.specs.Shade.{blended_if, IsSpan, texture_of, LiesIn};
-ghost use Rattle.span_lanes.specs.RowColors.{AreRowColors};
-ghost use Rattle.span_lanes.specs.Lanes.{AreChannels, AreDitherLanes, AreDitherLanesAt, tone_with, IsSolid};
-ghost use Rattle.span_lanes.specs.Untextured.{AreTones};
-ghost use Rattle.span_lanes.specs.SpanDrawer.{DrawsCells, HasHalfword};
+ghost use Rattle.span_lanes.specs.Attributes.RowColors.{AreRowColors};
+ghost use Rattle.span_lanes.specs.Chunks.Lanes.{AreChannels, AreDitherLanes, AreDitherLanesAt, tone_with, IsSolid};
+ghost use Rattle.span_lanes.specs.Chunks.Untextured.{AreTones};
+ghost use Rattle.span_lanes.specs.SpanDrawer.{DrawsCells};
 ghost use Rattle.vram_store.specs.Vram.{height_of};
 ghost use Rattle.vram_store.specs.Plot.{is_testing};
 ghost use Rattle.span_lanes.specs.declared.span.Paint.TheVariants.{Flat};
@@ -23,7 +23,7 @@ use crate::attributes::ramps::ColorRamps;
 use crate::chunks::blended::{back_of, reads_back};
 use crate::chunks::loops::{ChunkDrawer, draw_by_brush, draw_by_mode, draw_chunks, store_chunk};
 use crate::span::Chunk;
-use crate::{Brush, Paint, Span};
+use crate::{Brush, Span};
 use blend_dither::{blend_lanes, tone, undithered_tone_lanes};
 use px_num::lanes::splat;
 use std::simd::prelude::*;
@@ -147,7 +147,7 @@ struct FlatCells {
 }
 
 impl ChunkDrawer for FlatCells {
-    ghost use Rattle.span_lanes.specs.Untextured.{CanDrawFlat};
+    ghost use Rattle.span_lanes.specs.Chunks.Untextured.{CanDrawFlat};
 
     ghost serves = { λ c s m. CanDrawFlat s c.color c.dither_lanes.lanes m };
 
@@ -171,7 +171,7 @@ struct GouraudCells<'a> {
 }
 
 impl ChunkDrawer for GouraudCells<'_> {
-    ghost use Rattle.span_lanes.specs.Untextured.{CanDrawGouraud};
+    ghost use Rattle.span_lanes.specs.Chunks.Untextured.{CanDrawGouraud};
 
     ghost serves = { λ c s m. CanDrawGouraud s c.ramps.now c.dither_lanes.lanes m };
 
@@ -189,7 +189,12 @@ impl ChunkDrawer for GouraudCells<'_> {
 
 // Draws a span of one colour without a texture.
 #[inline(never)]
-pub(crate) fn draw_flat<L: Ledger>(vram: &mut Vram, span: &Span, color: u32, steps: &mut Steps<L>)
+pub(crate) fn draw_flat_span<L: Ledger>(
+    vram: &mut Vram,
+    span: &Span,
+    color: u32,
+    steps: &mut Steps<L>,
+)
     requires can { CanDraw span.now vram.old }
     requires untextured { texture_of span.now.paint ≡ None }
     requires row_colors { AreRowColors span.now.paint span.now.x span.now.y span.now.n (One color) }
@@ -205,7 +210,7 @@ pub(crate) fn draw_flat<L: Ledger>(vram: &mut Vram, span: &Span, color: u32, ste
 
 // Draws a span of a triangle's colours without a texture. `ramps` must be those of its paint.
 #[inline(never)]
-pub(crate) fn draw_gouraud<L: Ledger>(
+pub(crate) fn draw_gouraud_span<L: Ledger>(
     vram: &mut Vram,
     span: &Span,
     ramps: &ColorRamps,
@@ -244,17 +249,6 @@ pub(crate) fn solid_color(brush: &Brush, color: u32) -> Option<u16>
     }
 }
 
-/// Returns the halfword that each cell becomes, whatever its value. Returns `None` unless the paint is one colour and
-/// pixels are not blended, tested or dithered.
-pub fn solid_of(paint: &Paint, brush: &Brush) -> Option<u16>
-    ensures { HasHalfword paint.now brush.now result }
-{
-    match paint {
-        Paint::Flat { color } => solid_color(brush, *color),
-        _ => None,
-    }
-}
-
 // The halfword that each cell becomes.
 #[derive(Clone, Copy)]
 pub(crate) struct Solid {
@@ -262,7 +256,7 @@ pub(crate) struct Solid {
 }
 
 impl ChunkDrawer for Solid {
-    ghost use Rattle.span_lanes.specs.Solid.{CanFill};
+    ghost use Rattle.span_lanes.specs.Chunks.Solid.{CanFill};
 
     ghost serves = { λ c s m. CanFill s c.h m };
 
@@ -280,7 +274,7 @@ impl ChunkDrawer for Solid {
 /// Draws a span as [`draw_span`](crate::draw_span) does, under the same conditions. All its cells must become the
 /// halfword `h`, whatever their values.
 #[inline(always)]
-pub fn draw_solid<L: Ledger>(vram: &mut Vram, span: &Span, h: u16, steps: &mut Steps<L>)
+pub(crate) fn draw_solid_span<L: Ledger>(vram: &mut Vram, span: &Span, h: u16, steps: &mut Steps<L>)
     requires span { IsSpan span.now }
     requires height { LiesIn (height_of vram.old) span.now }
     requires solid { IsSolid span.now h }

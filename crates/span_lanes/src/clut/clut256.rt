@@ -4,15 +4,17 @@ ghost use Rattle.px_num.specs.Lanes.{EachLane, AreBytes};
 ghost use Rattle.texture_page.specs.Page.{clut_place};
 ghost use Rattle.texel_lanes.specs.Texture.{at_cell};
 ghost use Rattle.span_lanes.specs.Shade.{modulated_texel};
-ghost use Rattle.span_lanes.specs.ColoredClut256.{IsColoredClut256Of, entry_in, modulated_in};
+ghost use Rattle.span_lanes.specs.Clut.ModulatedClut256.{IsModulatedClut256Of, entry_in, modulated_in};
 ghost use Rattle.span_lanes.specs.TexelRows.{IsCached256};
 
+use crate::Texture;
 use crate::chunks::loops::{ChunkDrawer, draw_chunks};
 use crate::chunks::textured::draw_texels;
 use crate::clut::modulated::{ModulatedTexels, modulated_entries};
+use crate::rows::rectangle::TexelRowsMethod;
+use crate::rows::texel_rows::{RowAt, TexelRows};
 use crate::span::Chunk;
 use crate::texels::texel_run::EightBitRun;
-use crate::{RowAt, TexelRows, TexelRowsMethod, Texture};
 use std::simd::prelude::*;
 use std::sync::ledger::Ledger;
 use texel_lanes::sixteen_entries;
@@ -45,7 +47,7 @@ fn store_piece(words: &mut [u32; 256], piece: u16, entries: [u16; 16], modulated
 // Returns entries `16 * piece` to `16 * piece + 15` of the texture's CLUT, and the same modulated by `color`. Costs at
 // most one step.
 #[inline(always)]
-fn color_piece<L: Ledger>(
+fn modulated_piece<L: Ledger>(
     vram: &Vram,
     texture: &Texture,
     color: u32,
@@ -70,18 +72,20 @@ fn color_piece<L: Ledger>(
 // Makes `words` the texture's CLUT, modulated by `color`, or unchanged if the texture is raw. Costs at most sixteen
 // steps.
 #[inline(never)]
-pub(crate) fn color_clut256<L: Ledger>(
+pub(crate) fn modulate_clut256<L: Ledger>(
     vram: &Vram,
     texture: &Texture,
     color: u32,
     words: &mut [u32; 256],
     steps: &mut Steps<L>,
 )
-    ensures colored { IsColoredClut256Of texture.now vram.now color words.new }
+    ensures modulated { IsModulatedClut256Of texture.now vram.now color words.new }
     ensures cost { steps.new ≤ steps.old + 16 }
 {
     for piece in 0..16 {
-        let ModulatedTexels { texels, modulated } = color_piece(vram, texture, color, piece, steps);
+        let ModulatedTexels { texels, modulated } = modulated_piece(
+            vram, texture, color, piece, steps,
+        );
         store_piece(words, piece, texels.to_array(), modulated.to_array());
     }
 }
@@ -160,7 +164,7 @@ struct CachedClut256<'a> {
 }
 
 impl ChunkDrawer for CachedClut256<'_> {
-    ghost use Rattle.span_lanes.specs.CachedClut.{CanUseCached256};
+    ghost use Rattle.span_lanes.specs.Clut.CachedClut.{CanUseCached256};
     ghost use Rattle.span_lanes.specs.TexelRun.{IsTexelRun};
 
     ghost serves = { λ c s m.
@@ -181,7 +185,7 @@ impl ChunkDrawer for CachedClut256<'_> {
 
 /// Contiguous texels of eight bits, in rows without a hazard: the CLUT is modulated once.
 #[derive(Drop)]
-pub struct CachedClut256Rows {
+pub(crate) struct CachedClut256Rows {
     // whether `words` has the CLUT; at first it was not read
     filled: bool,
     // a word for each entry: the entry in its low half, the same modulated in its high half
@@ -194,11 +198,11 @@ impl CachedClut256Rows {
     fn fill<L: Ledger>(&mut self, vram: &Vram, rows: &TexelRows, steps: &mut Steps<L>)
         requires { IsCached256 rows.now vram.now self.old.filled self.old.words }
         ensures filled { self.new.filled ≡ true }
-        ensures colored { IsColoredClut256Of rows.now.texture vram.now rows.now.color self.new.words }
+        ensures modulated { IsModulatedClut256Of rows.now.texture vram.now rows.now.color self.new.words }
         ensures cost { steps.new ≤ steps.old + 16 }
     {
         if !self.filled {
-            color_clut256(vram, &rows.texture, rows.color, &mut self.words, steps);
+            modulate_clut256(vram, &rows.texture, rows.color, &mut self.words, steps);
             self.filled = true;
         }
     }

@@ -2,11 +2,11 @@
 ghost use Rattle.std.specs.Prelude.{◌≡◌, ◌&&◌, not, pos, length, slice_index, ◌≤◌, ◌<◌, ◌+◌, IfSome, IsTrue};
 ghost use Rattle.px_num.specs.Lanes.{EachLane, AreBytes};
 ghost use Rattle.span_lanes.specs.Draws.{IsChunk};
-ghost use Rattle.span_lanes.specs.Lanes.{AreDitherLanesAt};
+ghost use Rattle.span_lanes.specs.Chunks.Lanes.{AreDitherLanesAt};
 ghost use Rattle.span_lanes.specs.RowSetup.{AreModulated, IsRowSetup};
 ghost use Rattle.span_lanes.specs.Shade.{IsSpan, modulated_texel};
-ghost use Rattle.span_lanes.specs.ColoredClut.{IsColoredClut, AreClutEntries, HasColoredClut, IsColoredBy};
-ghost use Rattle.span_lanes.specs.ColoredClut.{CanCacheClut};
+ghost use Rattle.span_lanes.specs.Clut.ModulatedClut.{IsModulatedClut, AreClutEntries, HasModulatedClut, IsModulatedBy};
+ghost use Rattle.span_lanes.specs.Clut.ModulatedClut.{CanCacheClut};
 ghost use Rattle.texel_lanes.specs.Table.{entry_at};
 
 use crate::attributes::color_lanes::{
@@ -64,7 +64,7 @@ pub(crate) fn modulated_texels<H: ColorSource>(
 
 // The sixteen entries of a CLUT, and the same entries modulated by `color`, or unchanged if `raw` is true.
 #[derive(Clone, Copy)]
-pub(crate) struct ColoredClut {
+pub(crate) struct ModulatedClut {
     pub(crate) raw: bool,
     pub(crate) color: u32,
     pub(crate) entries: Table,
@@ -80,14 +80,14 @@ pub(crate) struct ModulatedTexels {
 
 // Returns sixteen CLUT entries, and the same entries modulated by `color`, or unchanged if `raw` is true.
 #[inline(always)]
-fn colored(raw: bool, color: u32, entries: u16x16) -> ColoredClut
+fn modulated(raw: bool, color: u32, entries: u16x16) -> ModulatedClut
     requires { length entries ≡ 16 }
-    ensures colored { IsColoredClut result }
+    ensures modulated { IsModulatedClut result }
     ensures raw { result.raw ≡ raw }
     ensures color { result.color ≡ color }
     ensures entries { EachLane (λ i. entry_at result.entries i ≡ slice_index entries i) }
 {
-    ColoredClut {
+    ModulatedClut {
         raw,
         color,
         entries: table_of(entries),
@@ -97,8 +97,8 @@ fn colored(raw: bool, color: u32, entries: u16x16) -> ColoredClut
 
 // Returns whether a CLUT is cached with this `raw` and `color`.
 #[inline(always)]
-fn is_colored_by(last: &Option<ColoredClut>, raw: bool, color: u32) -> bool
-    ensures { IsTrue result → IsColoredBy last.now raw color }
+fn is_modulated_by(last: &Option<ModulatedClut>, raw: bool, color: u32) -> bool
+    ensures { IsTrue result → IsModulatedBy last.now raw color }
 {
     match last {
         None => false,
@@ -109,49 +109,49 @@ fn is_colored_by(last: &Option<ColoredClut>, raw: bool, color: u32) -> bool
 // Makes `last` the texture's CLUT, modulated by `color`, or unchanged if the texture is raw. Reads nothing if `last`
 // is already so. Entries in `last` must equal those in video memory. Costs at most one step.
 #[inline(always)]
-#[tactic(auto, using(crate::proofs::ColoredClutLemmas::clut_is, crate::proofs::ColoredClutLemmas::clut_kept))]
+#[tactic(auto, using(crate::proofs::ModulatedClutLemmas::clut_is, crate::proofs::ModulatedClutLemmas::clut_kept))]
 pub(crate) fn cache_clut<L: Ledger>(
     vram: &Vram,
     texture: &Texture,
     color: u32,
-    last: &mut Option<ColoredClut>,
+    last: &mut Option<ModulatedClut>,
     steps: &mut Steps<L>,
 )
-    requires colored { IfSome last.old IsColoredClut }
+    requires modulated { IfSome last.old IsModulatedClut }
     requires fresh { IfSome last.old (λ s. AreClutEntries texture.now vram.now s.entries) }
-    ensures clut { HasColoredClut texture.now vram.now color last.new }
+    ensures clut { HasModulatedClut texture.now vram.now color last.new }
     ensures cost { steps.new ≤ steps.old + 1 }
 {
-    if !is_colored_by(last, texture.raw, color) {
+    if !is_modulated_by(last, texture.raw, color) {
         let entries = sixteen_entries(vram, texture.clut, steps);
-        *last = Some(colored(texture.raw, color, entries));
+        *last = Some(modulated(texture.raw, color, entries));
     }
 }
 
 // Returns the CLUT entries at sixteen indexes below 16, and the same entries modulated. `raw` must be that of
-// `colored_clut`.
+// `modulated_clut`.
 #[inline(always)]
 #[tactic(auto, unfolding(crate::specs::Shade::modulated_texel))]
 pub(crate) fn texels_by_index(
-    colored_clut: &ColoredClut,
+    modulated_clut: &ModulatedClut,
     raw: bool,
     index: u8x16,
 ) -> ModulatedTexels
-    requires colored { IsColoredClut colored_clut.now }
-    requires raw { colored_clut.now.raw ≡ raw }
+    requires modulated { IsModulatedClut modulated_clut.now }
+    requires raw { modulated_clut.now.raw ≡ raw }
     requires bytes { AreBytes index }
     requires low { EachLane (λ i. slice_index index i < 16) }
     ensures long { (length result.texels ≡ 16) × (length result.modulated ≡ 16) }
     ensures texels { EachLane (λ i. slice_index result.texels i
-        ≡ entry_at colored_clut.now.entries (slice_index index i)) }
+        ≡ entry_at modulated_clut.now.entries (slice_index index i)) }
     ensures modulated { EachLane (λ i. slice_index result.modulated i
-        ≡ modulated_texel raw colored_clut.now.color (pos 0) (slice_index result.texels i)) }
+        ≡ modulated_texel raw modulated_clut.now.color (pos 0) (slice_index result.texels i)) }
 {
-    let texels = entries_at(&colored_clut.entries, index);
+    let texels = entries_at(&modulated_clut.entries, index);
     let modulated = if raw {
         texels
     } else {
-        entries_at(&colored_clut.modulated, index)
+        entries_at(&modulated_clut.modulated, index)
     };
     ModulatedTexels { texels, modulated }
 }

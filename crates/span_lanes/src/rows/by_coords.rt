@@ -1,16 +1,16 @@
 // Spans whose texels are read by coordinates. Chunks that may have a hazard are tested first.
 ghost use Rattle.std.specs.Prelude.{◌≡◌, Some, IsTrue, ◌+◌, false};
 ghost use Rattle.span_lanes.specs.Shade.{IsSpan, texture_of};
-ghost use Rattle.span_lanes.specs.Guard.{IsHazardFree, HasHazard, has_hazard};
-ghost use Rattle.span_lanes.specs.RowColors.{AreRowColors};
+ghost use Rattle.span_lanes.specs.Hazard.Guard.{IsHazardFree, HasHazard, has_hazard};
+ghost use Rattle.span_lanes.specs.Attributes.RowColors.{AreRowColors};
 ghost use Rattle.span_lanes.specs.Paints.{row_paint, chunk_u, chunk_v};
 ghost use Rattle.span_lanes.specs.SpanDrawer.{state_of};
 ghost use Rattle.span_lanes.specs.RowSetup.{IsRowSetup};
-ghost use Rattle.span_lanes.specs.TriangleSetup.{IsSetupOf};
-ghost use Rattle.span_lanes.specs.TexCoords.{AreTexCoords};
+ghost use Rattle.span_lanes.specs.Attributes.TriangleSetup.{IsSetupOf};
+ghost use Rattle.span_lanes.specs.Attributes.TexCoords.{AreTexCoords};
 ghost use Rattle.span_lanes.specs.Draws.{CanDraw, DrawsChunk, IsChunk, at_stage, DrawsSpan};
-ghost use Rattle.span_lanes.specs.Lanes.{HasCoordinates};
-ghost use Rattle.span_lanes.specs.ColoredClut.{IsCached};
+ghost use Rattle.span_lanes.specs.Chunks.Lanes.{HasCoordinates};
+ghost use Rattle.span_lanes.specs.Clut.ModulatedClut.{IsCached};
 ghost use Rattle.span_lanes.specs.TriangleDrawer.{AreContiguous};
 
 use crate::attributes::shading::{RowColors, RowShading, row_colors_of, row_shading_of};
@@ -21,7 +21,7 @@ use crate::attributes::triangle_setup::TriangleSetup;
 use crate::chunks::loops::{ChunkDrawer, draw_cells, draw_chunks};
 use crate::chunks::textured::draw_shaded;
 use crate::clut::clut16::draw_cached;
-use crate::clut::modulated::{ColoredClut, suits};
+use crate::clut::modulated::{ModulatedClut, suits};
 use crate::hazard::{is_hazard_free, is_row_hazard_free, is_run_hazard_free, reads_itself};
 use crate::rows::contiguous::{draw_contiguous, sampler_of};
 use crate::rows::texel_rows::TexelRow;
@@ -171,7 +171,7 @@ pub(crate) fn draw_by_coords<L: Ledger>(
     vram: &mut Vram,
     span: &Span,
     row_setup: &RowSetup,
-    last: &mut Option<ColoredClut>,
+    last: &mut Option<ModulatedClut>,
     steps: &mut Steps<L>,
 )
     requires can { CanDraw span.now vram.old }
@@ -202,7 +202,7 @@ pub(crate) fn draw_tri<L: Ledger>(
     vram: &mut Vram,
     span: &Span,
     setup: &TriangleSetup,
-    last: &mut Option<ColoredClut>,
+    last: &mut Option<ModulatedClut>,
     steps: &mut Steps<L>,
 )
     requires can { CanDraw span.now vram.old }
@@ -222,7 +222,7 @@ pub(crate) fn draw_contiguous_tri<L: Ledger>(
     vram: &mut Vram,
     span: &Span,
     setup: &TriangleSetup,
-    last: &mut Option<ColoredClut>,
+    last: &mut Option<ModulatedClut>,
     steps: &mut Steps<L>,
 )
     requires can { CanDraw span.now vram.old }

@@ -1,10 +1,10 @@
 // Rows of triangles without a hazard, whose texels are read by coordinates.
 ghost use Rattle.span_lanes.specs.declared.attributes.shading.RowColors.TheVariants.{One};
 ghost use Rattle.span_lanes.specs.Draws.{DrawsSpan, at_stage};
-ghost use Rattle.span_lanes.specs.RowColors.{AreRowColors};
-ghost use Rattle.span_lanes.specs.CachedClut.{CanTakeTexels};
-ghost use Rattle.span_lanes.specs.AttributeRamps.{AreCoordRampsOf, AreAttributeRampsOf};
-ghost use Rattle.span_lanes.specs.ColoredClut.{IsCached};
+ghost use Rattle.span_lanes.specs.Attributes.RowColors.{AreRowColors};
+ghost use Rattle.span_lanes.specs.Clut.CachedClut.{CanTakeTexels};
+ghost use Rattle.span_lanes.specs.Attributes.AttributeRamps.{AreCoordRampsOf, AreAttributeRampsOf};
+ghost use Rattle.span_lanes.specs.Clut.ModulatedClut.{IsCached};
 
 use crate::attributes::color_lanes::{DitherLanes, dither_lanes_of};
 use crate::attributes::ramps::{AttributeRamps, CoordRamps};
@@ -12,7 +12,7 @@ use crate::attributes::shading::{RowColors, is_dithered, row_shading_of};
 use crate::chunks::loops::{ChunkDrawer, draw_chunks};
 use crate::chunks::textured::{ShadedTexels, draw_texels};
 use crate::clut::clut16::{can_cache_clut, draw_cached};
-use crate::clut::modulated::{ColoredClut, ModulatedTexels, modulated_texels};
+use crate::clut::modulated::{ModulatedClut, ModulatedTexels, modulated_texels};
 use crate::span::Chunk;
 use crate::texels::sampler::{FlatTexels, Sampler};
 use crate::{Span, Texture};
@@ -30,7 +30,7 @@ fn draw_shaded<L: Ledger>(
 )
     requires take { CanTakeTexels span.now texels.now.texture.now
         (AreCoordRampsOf span.now.paint texels.now.sampler.now) vram.old }
-    requires hue { AreRowColors span.now.paint span.now.x span.now.y span.now.n (One texels.now.color) }
+    requires one_color { AreRowColors span.now.paint span.now.x span.now.y span.now.n (One texels.now.color) }
     ensures { DrawsSpan span.now 0 (at_stage vram.old steps.old) (at_stage vram.new steps.new) }
 {
     let row_colors = RowColors::One {
@@ -51,12 +51,12 @@ pub(crate) fn draw_flat_texels<L: Ledger>(
     vram: &mut Vram,
     span: &Span,
     texels: &FlatTexels<&CoordRamps>,
-    last: &mut Option<ColoredClut>,
+    last: &mut Option<ModulatedClut>,
     steps: &mut Steps<L>,
 )
     requires take { CanTakeTexels span.now texels.now.texture.now
         (AreCoordRampsOf span.now.paint texels.now.sampler.now) vram.old }
-    requires hue { AreRowColors span.now.paint span.now.x span.now.y span.now.n (One texels.now.color) }
+    requires one_color { AreRowColors span.now.paint span.now.x span.now.y span.now.n (One texels.now.color) }
     requires last { IsCached span.now.paint vram.old last.old }
     ensures drawn { DrawsSpan span.now 0 (at_stage vram.old steps.old) (at_stage vram.new steps.new) }
     ensures last { IsCached span.now.paint vram.new last.new }
@@ -79,9 +79,9 @@ struct GouraudTexels<'a> {
 
 impl<'a> ChunkDrawer for GouraudTexels<'a> {
     ghost use Rattle.std.specs.Prelude.{◌&&◌, not};
-    ghost use Rattle.span_lanes.specs.CachedClut.{CanTakeTexels};
-    ghost use Rattle.span_lanes.specs.Lanes.{AreDitherLanesAt};
-    ghost use Rattle.span_lanes.specs.AttributeRamps.{AreColorsOf, AreCoordRampsOf};
+    ghost use Rattle.span_lanes.specs.Clut.CachedClut.{CanTakeTexels};
+    ghost use Rattle.span_lanes.specs.Chunks.Lanes.{AreDitherLanesAt};
+    ghost use Rattle.span_lanes.specs.Attributes.AttributeRamps.{AreColorsOf, AreCoordRampsOf};
 
     ghost serves = { λ c s m. CanTakeTexels s c.texture.now (AreCoordRampsOf s.paint c.ramps.now.coord_ramps) m
         × AreColorsOf s.paint c.ramps.now.colors

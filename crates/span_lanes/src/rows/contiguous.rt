@@ -2,21 +2,21 @@
 // that is possible.
 ghost use Rattle.std.specs.Prelude.{◌≡◌, true, false};
 ghost use Rattle.span_lanes.specs.Draws.{DrawsSpan, at_stage};
-ghost use Rattle.span_lanes.specs.CachedClut.{CanTakeTexels};
+ghost use Rattle.span_lanes.specs.Clut.CachedClut.{CanTakeTexels};
 ghost use Rattle.span_lanes.specs.SpanDrawer.{IsShadingFor};
 ghost use Rattle.span_lanes.specs.TexelRun.{IsTexelRun};
 ghost use Rattle.span_lanes.specs.RowSetup.{IsRowShading};
 ghost use Rattle.span_lanes.specs.Shade.{IsSpan};
 ghost use Rattle.span_lanes.specs.TriangleDrawer.{AreContiguous};
-ghost use Rattle.span_lanes.specs.TriangleSetup.{CanDrawSetup};
-ghost use Rattle.span_lanes.specs.ColoredClut.{IsCached};
+ghost use Rattle.span_lanes.specs.Attributes.TriangleSetup.{CanDrawSetup};
+ghost use Rattle.span_lanes.specs.Clut.ModulatedClut.{IsCached};
 
 use crate::attributes::shading::{Shading, row_colors_of, row_shading_of};
 use crate::attributes::triangle_setup::TriangleSetup;
 use crate::chunks::loops::{OwnLoop, draw_by_brush};
 use crate::chunks::textured::{Raw, ShadedTexels};
 use crate::clut::clut16::{can_cache_clut, draw_cached_run};
-use crate::clut::modulated::ColoredClut;
+use crate::clut::modulated::ModulatedClut;
 use crate::span::with_dither;
 use crate::texels::sampler::{FlatTexels, Sampler};
 use crate::texels::texel_run::{
@@ -206,7 +206,7 @@ pub(crate) fn draw_contiguous<L: Ledger>(
     span: &Span,
     found: &BoundSampler<TexelRun>,
     shading: &Shading,
-    last: &mut Option<ColoredClut>,
+    last: &mut Option<ModulatedClut>,
     steps: &mut Steps<L>,
 )
     requires take { CanTakeTexels span.now found.now.texture.now (IsTexelRun span.now found.now.texture.now
@@ -238,7 +238,7 @@ pub(crate) fn draw_contiguous_row<L: Ledger>(
     vram: &mut Vram,
     span: &Span,
     setup: &TriangleSetup,
-    last: &mut Option<ColoredClut>,
+    last: &mut Option<ModulatedClut>,
     steps: &mut Steps<L>,
 )
     requires can { CanDrawSetup setup.now span.now vram.old }

@@ -4,10 +4,10 @@
 // saves work in each chunk. These are the loops. "Opaque" pixels are neither blended nor tested, and their bit 15 is
 // not forced. In brackets: a workload of the benchmark.
 //
-// - `Solid`, in `draw_ready` and `draw_solid`: all cells become one halfword, and nothing is read. [triangle flat]
-// - `FlatCells`, five in `draw_flat`, for one colour: one for each blending mode [rectangle B+F], and one for pixels
-//   that are tested or dithered, or blended with a forced bit 15.
-// - `GouraudCells`, two in `draw_gouraud`: the colours of a triangle, opaque or not. [triangle gouraud]
+// - `Solid`, in `draw_solid_span`: all cells become one halfword, and nothing is read. [triangle flat]
+// - `FlatCells`, five in `draw_flat_span`, for one colour: one for each blending mode [rectangle B+F], and one for
+//   pixels that are tested or dithered, or blended with a forced bit 15.
+// - `GouraudCells`, two in `draw_gouraud_span`: the colours of a triangle, opaque or not. [triangle gouraud]
 // - `CachedClut<TexelRun>`, in `CachedClutMethod::draw_row`: a cached CLUT and opaque pixels. The loop is inlined
 //   into the loop over the rows. [triangle 4-bit modulated]
 // - `CachedClut<&CoordRamps>` and `ShadedTexels<&CoordRamps>`, in `draw_flat_texels`: texels by coordinates under one
@@ -32,13 +32,12 @@ ghost use Rattle.span_lanes.specs.Draws.{CanDraw, DrawsSpan, at_stage};
 ghost use Rattle.span_lanes.specs.Paints.{row_paint};
 ghost use Rattle.span_lanes.specs.SpanDrawer.{state_of};
 ghost use Rattle.span_lanes.specs.PaintSetup.{IsPaintSetup};
-ghost use Rattle.span_lanes.specs.ColoredClut.{IsCached};
+ghost use Rattle.span_lanes.specs.Clut.ModulatedClut.{IsCached};
 
 use crate::Span;
 use crate::attributes::shading::Shading;
-use crate::chunks::loops::draw_chunks;
-use crate::chunks::untextured::{Solid, draw_flat, draw_gouraud};
-use crate::clut::modulated::ColoredClut;
+use crate::chunks::untextured::{draw_flat_span, draw_gouraud_span};
+use crate::clut::modulated::ModulatedClut;
 use crate::hazard::is_run_hazard_free;
 use crate::rows::by_coords::{draw_by_coords, draw_contiguous_tri, draw_tri, rectangle_row_setup};
 use crate::rows::contiguous::{draw_contiguous, sampler_of};
@@ -54,7 +53,7 @@ fn draw_row_by_coords<L: Ledger>(
     vram: &mut Vram,
     span: &Span,
     row: &TexelRow,
-    last: &mut Option<ColoredClut>,
+    last: &mut Option<ModulatedClut>,
     steps: &mut Steps<L>,
 )
     requires can { CanDraw span.now vram.old }
@@ -70,11 +69,11 @@ fn draw_row_by_coords<L: Ledger>(
 // Draws a row of texels: by [`draw_contiguous`] if they are contiguous and known to have no hazard, otherwise by their
 // coordinates. `row` must be the span's paint. Entries in `last` must equal those in video memory.
 #[inline(always)]
-pub(crate) fn draw_row<L: Ledger>(
+pub(crate) fn draw_texel_row<L: Ledger>(
     vram: &mut Vram,
     span: &Span,
     row: &TexelRow,
-    last: &mut Option<ColoredClut>,
+    last: &mut Option<ModulatedClut>,
     steps: &mut Steps<L>,
 )
     requires can { CanDraw span.now vram.old }
@@ -103,7 +102,7 @@ pub(crate) fn draw_ready<L: Ledger>(
     vram: &mut Vram,
     span: &Span,
     ready: &PaintSetup,
-    last: &mut Option<ColoredClut>,
+    last: &mut Option<ModulatedClut>,
     steps: &mut Steps<L>,
 )
     requires can { CanDraw span.now vram.old }
@@ -113,11 +112,9 @@ pub(crate) fn draw_ready<L: Ledger>(
     ensures last { IsCached span.now.paint vram.new last.new }
 {
     match ready {
-        PaintSetup::Solid { h } => draw_chunks(vram, span, &Solid { h: *h }, steps),
-        PaintSetup::One { color } => draw_flat(vram, span, *color, steps),
-        PaintSetup::Gouraud { ramps } => draw_gouraud(vram, span, ramps, steps),
+        PaintSetup::One { color } => draw_flat_span(vram, span, *color, steps),
+        PaintSetup::Gouraud { ramps } => draw_gouraud_span(vram, span, ramps, steps),
         PaintSetup::Tri { setup } => draw_tri(vram, span, setup, last, steps),
         PaintSetup::ContiguousTri { setup } => draw_contiguous_tri(vram, span, setup, last, steps),
-        PaintSetup::Row { row } => draw_row(vram, span, row, last, steps),
     }
 }

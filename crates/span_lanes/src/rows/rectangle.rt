@@ -4,18 +4,19 @@ ghost use Rattle.span_lanes.specs.ClipRect.{IsClipRect};
 
 use crate::attributes::shading::Shading;
 use crate::clut::clut16::draw_cached;
-use crate::clut::modulated::ColoredClut;
+use crate::clut::modulated::ModulatedClut;
 use crate::rows::contiguous::{draw_texel_run, sampler_of};
-use crate::rows::draw::draw_row;
-use crate::rows::texel_rows::TexelRow;
+use crate::rows::draw::draw_texel_row;
+use crate::rows::row_drawer::RowDrawer;
+use crate::rows::texel_rows::{RowAt, TexelRow, TexelRows};
+use crate::span::Run;
 use crate::texels::sampler::FlatTexels;
 use crate::texels::texel_run::SpriteRun;
-use crate::{RowAt, RowDrawer, Run, TexelRows};
 use std::sync::ledger::Ledger;
 use vram_store::{Steps, Vram};
 
 /// How rows of texels are drawn.
-pub trait TexelRowsMethod: Drop {
+pub(crate) trait TexelRowsMethod: Drop {
     ghost use Rattle.std.specs.Prelude.{ℕ, List};
     ghost use Rattle.span_lanes.specs.Draws.{DrawsSpan, at_stage};
     ghost use Rattle.span_lanes.specs.TexelRows.{CanDrawTexels, texel_span};
@@ -49,7 +50,7 @@ pub trait TexelRowsMethod: Drop {
 
 /// Draws the rows of a textured rectangle in a clip rectangle.
 #[derive(Drop)]
-pub struct RectangleDrawer<M> {
+pub(crate) struct RectangleDrawer<M> {
     rows: TexelRows,
     method: M,
 }
@@ -57,7 +58,7 @@ pub struct RectangleDrawer<M> {
 impl<M: TexelRowsMethod> RectangleDrawer<M> {
     /// Computes what is equal for all rows.
     #[inline(always)]
-    pub fn new(rows: &TexelRows) -> RectangleDrawer<M>
+    pub(crate) fn new(rows: &TexelRows) -> RectangleDrawer<M>
         requires accepts { M.accepts rows.now }
         requires clip { IsClipRect 1024 rows.now.clip_rect }
         ensures rows { result.rows ≡ rows.now }
@@ -91,15 +92,15 @@ impl<M: TexelRowsMethod> RowDrawer for RectangleDrawer<M> {
 
 /// Any rows: the loop is chosen for each row anew.
 #[derive(Drop)]
-pub struct AnyRows {
+pub(crate) struct AnyRows {
     // the last row that was drawn; at first row 0 of the page
     row: TexelRow,
     // the CLUT that was read last, and what the colour makes of it
-    last: Option<ColoredClut>,
+    last: Option<ModulatedClut>,
 }
 
 impl TexelRowsMethod for AnyRows {
-    ghost use Rattle.span_lanes.specs.ColoredClut.{IsCached};
+    ghost use Rattle.span_lanes.specs.Clut.ModulatedClut.{IsCached};
     ghost use Rattle.span_lanes.specs.TexelRows.{IsRowOf, texel_state};
 
     ghost accepts = { λ rows. Unit {0} };
@@ -124,19 +125,19 @@ impl TexelRowsMethod for AnyRows {
     ) {
         let span = rows.span(at);
         self.row.v = at.v;
-        draw_row(vram, &span, &self.row, &mut self.last, steps);
+        draw_texel_row(vram, &span, &self.row, &mut self.last, steps);
     }
 }
 
 /// Contiguous texels of four bits, in rows without a hazard: the CLUT is modulated once.
 #[derive(Drop)]
-pub struct CachedClutRows {
+pub(crate) struct CachedClutRows {
     // the CLUT, and what the colour makes of it; at first it was not read
-    last: Option<ColoredClut>,
+    last: Option<ModulatedClut>,
 }
 
 impl TexelRowsMethod for CachedClutRows {
-    ghost use Rattle.span_lanes.specs.ColoredClut.{IsCached};
+    ghost use Rattle.span_lanes.specs.Clut.ModulatedClut.{IsCached};
     ghost use Rattle.span_lanes.specs.TexelRows.{CanCacheRows, texel_state};
 
     ghost accepts = { CanCacheRows 0 };
@@ -170,7 +171,7 @@ impl TexelRowsMethod for CachedClutRows {
 
 /// Contiguous texels, in rows without a hazard: whether they are is tested once for all rows.
 #[derive(Drop)]
-pub struct ContiguousRows {}
+pub(crate) struct ContiguousRows {}
 
 impl TexelRowsMethod for ContiguousRows {
     ghost use Rattle.span_lanes.specs.TexelRows.{AreRowsContiguous};

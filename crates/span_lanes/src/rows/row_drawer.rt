@@ -1,21 +1,20 @@
 // What draws runs of cells, row by row, and the setup of a paint for all its spans.
-ghost use Rattle.span_lanes.specs.PaintSetup.{IsPaintSetup};
+ghost use Rattle.span_lanes.specs.PaintSetup.{HasSetup, IsPaintSetup};
 ghost use Rattle.span_lanes.specs.declared.span.Brush.{Brush};
-ghost use Rattle.span_lanes.specs.declared.span.Paint.TheVariants.{Flat, Shaded, TexturedTri};
+ghost use Rattle.span_lanes.specs.declared.span.Paint.TheVariants.{Shaded, TexturedTri};
 
 use crate::attributes::ramps::{ColorRamps, color_ramps_of};
 use crate::attributes::shading::one_color;
 use crate::attributes::triangle_setup::{TriangleSetup, triangle_setup_of};
-use crate::chunks::untextured::solid_color;
-use crate::rows::texel_rows::TexelRow;
 use crate::rows::triangle::is_contiguous;
-use crate::{Brush, Paint, Run, Texture};
+use crate::span::Run;
+use crate::{Brush, Paint, Texture};
 use edge_walk::Tri;
 use std::sync::ledger::Ledger;
 use vram_store::{Steps, Vram};
 
 /// Draws runs of cells, as many as there are. Whatever is equal for all of them is computed once.
-pub trait RowDrawer: Drop {
+pub(crate) trait RowDrawer: Drop {
     ghost use Rattle.std.specs.Prelude.{ℕ, ◌≡◌, List};
     ghost use Rattle.span_lanes.specs.Draws.{CanDraw};
     ghost use Rattle.span_lanes.specs.Pattern.{Pattern, run_span};
@@ -46,8 +45,6 @@ pub trait RowDrawer: Drop {
 // What all spans with one paint and the same pixel settings share.
 #[derive(Clone, Copy)]
 pub(crate) enum PaintSetup {
-    // all cells become one halfword, whatever their values
-    Solid { h: u16 },
     // one colour without a texture
     One { color: u32 },
     // the colours of a triangle without a texture
@@ -56,18 +53,6 @@ pub(crate) enum PaintSetup {
     Tri { setup: TriangleSetup },
     // a textured triangle whose texels are contiguous in each row
     ContiguousTri { setup: TriangleSetup },
-    // a row of texels
-    Row { row: TexelRow },
-}
-
-// Returns the setup of one colour: the halfword if all cells become the same one, else the colour.
-fn flat_setup(color: u32, brush: &Brush) -> PaintSetup
-    ensures { IsPaintSetup (record { paint = Flat color; brush = brush.now }) result }
-{
-    match solid_color(brush, color) {
-        Some(h) => PaintSetup::Solid { h },
-        None => PaintSetup::One { color },
-    }
 }
 
 // Returns the setup of the colours of a triangle.
@@ -94,28 +79,15 @@ fn tri_setup(tri: &Tri, texture: &Texture, brush: &Brush) -> PaintSetup
     }
 }
 
-// Returns the setup of a paint with these pixel settings.
+// Returns the setup of a paint with these pixel settings. The paint must not be a row of texels.
 pub(crate) fn paint_setup_of(paint: &Paint, brush: &Brush) -> PaintSetup
+    requires { HasSetup paint.now }
     ensures { IsPaintSetup (record { paint = paint.now; brush = brush.now }) result }
 {
     match paint {
-        Paint::Flat { color } => flat_setup(*color, brush),
+        Paint::Flat { color } => PaintSetup::One { color: *color },
         Paint::Shaded { tri } => shaded_setup(tri),
         Paint::TexturedTri { tri, texture } => tri_setup(tri, texture, brush),
-        Paint::TexturedRow {
-            color,
-            texture,
-            u,
-            v,
-            flip,
-        } => PaintSetup::Row {
-            row: TexelRow {
-                color: *color,
-                texture: *texture,
-                u: *u,
-                v: *v,
-                flip: *flip,
-            },
-        },
+        Paint::TexturedRow { .. } => unreachable!(),
     }
 }

@@ -1,34 +1,38 @@
 // Spans of any paint.
 ghost use Rattle.vram_store.specs.Vram.{height_of};
+ghost use Rattle.span_lanes.specs.PaintSetup.{HasTexelRow};
 ghost use Rattle.span_lanes.specs.SpanDrawer.{DrawsCells};
 ghost use Rattle.span_lanes.specs.Shade.{IsSpan, LiesIn};
 
-use crate::clut::modulated::ColoredClut;
-use crate::rows::draw::draw_ready;
-use crate::rows::row_drawer::{PaintSetup, paint_setup_of};
-use crate::{DrawState, RowDrawer, Run, Span};
+use crate::clut::modulated::ModulatedClut;
+use crate::rows::draw::{draw_ready, draw_texel_row};
+use crate::rows::row_drawer::{PaintSetup, RowDrawer, paint_setup_of};
+use crate::rows::texel_rows::TexelRow;
+use crate::span::Run;
+use crate::{DrawState, Paint, Span};
 use std::sync::ledger::Ledger;
 use vram_store::{Steps, Vram};
 
 /// Draws the spans of a primitive without a clip rectangle. Whatever is equal for all spans is computed once.
 #[derive(Drop)]
-pub struct SpanDrawer {
+pub(crate) struct SpanDrawer {
     // the last drawn span; at first a span without cells
     span: Span,
     ready: PaintSetup,
     // the CLUT that was read last, and what a colour makes of it
-    last: Option<ColoredClut>,
+    last: Option<ModulatedClut>,
 }
 
 impl SpanDrawer {
     ghost use Rattle.std.specs.Prelude.{ℕ, ◌≡◌, List};
-    ghost use Rattle.span_lanes.specs.ColoredClut.{IsCached};
-    ghost use Rattle.span_lanes.specs.PaintSetup.{IsPaintSetup};
+    ghost use Rattle.span_lanes.specs.Clut.ModulatedClut.{IsCached};
+    ghost use Rattle.span_lanes.specs.PaintSetup.{HasSetup, IsPaintSetup};
     ghost use Rattle.span_lanes.specs.SpanDrawer.{state_of};
 
-    /// Computes what is equal for all spans.
+    /// Computes what is equal for all spans. The paint must not be a row of texels.
     #[inline(always)]
-    pub fn new(state: &DrawState) -> SpanDrawer
+    pub(crate) fn new(state: &DrawState) -> SpanDrawer
+        requires { HasSetup state.now.paint }
         ensures state { state_of result.span ≡ state.now }
         ensures ready { IsPaintSetup (state_of result.span) result.ready }
         ensures fresh { (m : List ℕ) → IsCached result.span.paint m result.last }
@@ -48,7 +52,7 @@ impl SpanDrawer {
 }
 
 impl RowDrawer for SpanDrawer {
-    ghost use Rattle.span_lanes.specs.ColoredClut.{IsCached};
+    ghost use Rattle.span_lanes.specs.Clut.ModulatedClut.{IsCached};
     ghost use Rattle.span_lanes.specs.Pattern.{uniform};
     ghost use Rattle.span_lanes.specs.PaintSetup.{IsPaintSetup};
     ghost use Rattle.span_lanes.specs.SpanDrawer.{state_of};
@@ -66,6 +70,28 @@ impl RowDrawer for SpanDrawer {
         self.span.y = y;
         self.span.n = run.n;
         draw_ready(vram, &self.span, &self.ready, &mut self.last, steps);
+    }
+}
+
+// Returns the row of texels that a paint is, if it is one.
+fn texel_row_of(paint: &Paint) -> Option<TexelRow>
+    ensures { HasTexelRow paint.now result }
+{
+    match paint {
+        Paint::TexturedRow {
+            color,
+            texture,
+            u,
+            v,
+            flip,
+        } => Some(TexelRow {
+            color: *color,
+            texture: *texture,
+            u: *u,
+            v: *v,
+            flip: *flip,
+        }),
+        Paint::Flat { .. } | Paint::Shaded { .. } | Paint::TexturedTri { .. } => None,
     }
 }
 
@@ -90,6 +116,10 @@ pub fn draw_span<L: Ledger>(vram: &mut Vram, span: &Span, steps: &mut Steps<L>)
     ensures drawn { DrawsCells span.now
         (record { m = vram.old; steps = steps.old }) (record { m = vram.new; steps = steps.new }) }
 {
+    if let Some(row) = texel_row_of(&span.paint) {
+        draw_texel_row(vram, span, &row, &mut None, steps);
+        return;
+    }
     let mut drawer = SpanDrawer::new(&DrawState {
         paint: span.paint,
         brush: span.brush,

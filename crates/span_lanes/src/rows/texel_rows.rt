@@ -1,4 +1,4 @@
-// A row of texels, and the rows of a rectangle.
+// A row of texels, and the rows of texels of a rectangle.
 ghost use Rattle.std.specs.Prelude.{◌≡◌, ◌≤◌, ℕ, ◌+◌, IsTrue, false, ◌≢◌};
 ghost use Rattle.span_lanes.specs.Shade.{row_u};
 ghost use Rattle.texel_lanes.specs.Texture.{IsTexture};
@@ -6,13 +6,23 @@ ghost use Rattle.span_lanes.specs.TexelRun.{IsTexelRun};
 ghost use Rattle.span_lanes.specs.TexelRows.{AreRowsContiguous, IsRowOf, texel_row, texel_span, CanCacheRows};
 ghost use Rattle.span_lanes.specs.TexelRows.{CanCacheRows256};
 ghost use Rattle.span_lanes.specs.ClipRect.{IsClipRect};
+ghost use Rattle.span_lanes.specs.Figures.Rectangles.{CanDrawTexelRows, DrawsTexelRows};
+ghost use Rattle.vram_store.specs.Vram.{height_of};
 
 use crate::attributes::shading::{has_modulated_clut256, has_undithered_clut16};
+use crate::clut::clut256::CachedClut256Rows;
+use crate::figures::rectangle::ClipRectRows;
+use crate::figures::rows::draw_rows;
 use crate::hazard::are_rows_hazard_free;
 use crate::rows::contiguous::with_raw;
+use crate::rows::rectangle::{
+    AnyRows, CachedClutRows, ContiguousRows, RectangleDrawer, TexelRowsMethod,
+};
 use crate::span::{is_opaque, opaque_brush};
 use crate::texels::texel_run::{TexelRun, does_not_wrap, is_unwindowed, run_at_coords};
 use crate::{Brush, ClipRect, Paint, Span, Texture};
+use std::sync::ledger::Ledger;
+use vram_store::{Steps, Vram};
 
 // Texels of row `v` of a page under one colour. The first has column `u`; the columns decrease if `flip` is true,
 // otherwise increase.
@@ -64,11 +74,11 @@ pub struct TexelRows {
 
 /// A row of a clip rectangle, and the row of the texture page whose texels it has.
 #[derive(Clone, Copy)]
-pub struct RowAt {
+pub(crate) struct RowAt {
     /// The row of video memory.
-    pub y: u16,
+    pub(crate) y: u16,
     /// The row within the texture page.
-    pub v: u8,
+    pub(crate) v: u8,
 }
 
 impl TexelRows {
@@ -129,7 +139,7 @@ impl TexelRows {
 
     /// Returns these rows. The compiler then knows whether they are raw, and makes a loop for that case.
     #[inline(always)]
-    pub fn known_raw(&self, raw: bool) -> TexelRows
+    fn known_raw(&self, raw: bool) -> TexelRows
         requires { self.now.texture.raw ≡ raw }
         ensures { result ≡ self.now }
     {
@@ -141,7 +151,7 @@ impl TexelRows {
 
     /// Returns whether pixels are neither blended nor tested, and no mask bit is set.
     #[inline(always)]
-    pub fn is_opaque(&self) -> bool
+    fn is_opaque(&self) -> bool
         ensures mask { IsTrue result → self.now.brush.mask ≡ 0 }
         ensures semi { IsTrue result → self.now.brush.semi ≡ false }
     {
@@ -150,7 +160,7 @@ impl TexelRows {
 
     /// Returns these rows. The compiler then knows that they are opaque.
     #[inline(always)]
-    pub fn known_opaque(&self) -> TexelRows
+    fn known_opaque(&self) -> TexelRows
         requires mask { self.now.brush.mask ≡ 0 }
         requires semi { self.now.brush.semi ≡ false }
         ensures { result ≡ self.now }
@@ -172,9 +182,9 @@ fn is_worth_clut256(clip_rect: &ClipRect) -> bool
 
 impl TexelRows {
     /// Returns true only if the texels of each row are contiguous, in cells that do not wrap, and no row has a hazard.
-    /// [`ContiguousRows`](crate::ContiguousRows) draws such rows, and [`AnyRows`](crate::AnyRows) all.
+    /// `ContiguousRows` draws such rows, and `AnyRows` all.
     #[inline(always)]
-    pub fn are_contiguous(&self) -> bool
+    fn are_contiguous(&self) -> bool
         requires clip_rect { IsClipRect 1024 self.now.clip_rect }
         requires texture { IsTexture self.now.texture }
         ensures { IsTrue result → AreRowsContiguous self.now }
@@ -187,11 +197,11 @@ impl TexelRows {
     }
 
     /// Returns whether the CLUT of contiguous rows can be modulated once, and is worth it. A CLUT of sixteen entries
-    /// is, unless pixels are dithered: [`CachedClutRows`](crate::CachedClutRows) draws such rows. A CLUT of 256 entries
+    /// is, unless pixels are dithered: `CachedClutRows` draws such rows. A CLUT of 256 entries
     /// is only if also texels are not raw and the clip rectangle has at least 512 cells, in rows of at least sixteen:
-    /// [`CachedClut256Rows`](crate::CachedClut256Rows) draws such rows.
+    /// `CachedClut256Rows` draws such rows.
     #[inline(always)]
-    pub fn has_cacheable_clut(&self) -> bool
+    fn has_cacheable_clut(&self) -> bool
         ensures fours { IsTrue result → self.now.texture.page.depth ≡ 0 → AreRowsContiguous self.now
             → CanCacheRows 0 self.now }
         ensures eights { IsTrue result → self.now.texture.page.depth ≢ 0 → AreRowsContiguous self.now
@@ -201,6 +211,107 @@ impl TexelRows {
             has_undithered_clut16(&self.texture, &self.brush)
         } else {
             has_modulated_clut256(&self.texture, &self.brush) && is_worth_clut256(&self.clip_rect)
+        }
+    }
+}
+
+impl TexelRows {
+    // Draws the rows by a method. Each method has an instance of this function.
+    #[inline(always)]
+    fn draw_by<M: TexelRowsMethod, L: Ledger>(&self, vram: &mut Vram, steps: &mut Steps<L>)
+        requires can { CanDrawTexelRows (height_of vram.old) self.now }
+        requires accepts { M.accepts self.now }
+        ensures { DrawsTexelRows self.now
+            (record { m = vram.old; steps = steps.old }) (record { m = vram.new; steps = steps.new }) }
+    {
+        let mut rows = ClipRectRows {
+            clip_rect: self.clip_rect,
+        };
+        let mut drawer = RectangleDrawer::<M>::new(self);
+        draw_rows(vram, &mut rows, &mut drawer, steps);
+    }
+
+    // Draws texels whose CLUT is modulated once: by one loop for each case of raw and opaque.
+    #[inline(never)]
+    fn draw_clut16<L: Ledger>(&self, vram: &mut Vram, steps: &mut Steps<L>)
+        requires can { CanDrawTexelRows (height_of vram.old) self.now }
+        requires keeps { CanCacheRows 0 self.now }
+        ensures { DrawsTexelRows self.now
+            (record { m = vram.old; steps = steps.old }) (record { m = vram.new; steps = steps.new }) }
+    {
+        let opaque = self.is_opaque();
+        if self.texture.raw {
+            let rows = self.known_raw(true);
+            if opaque {
+                rows.known_opaque()
+                    .draw_by::<CachedClutRows, L>(vram, steps);
+            } else {
+                rows.draw_by::<CachedClutRows, L>(vram, steps);
+            }
+        } else {
+            let rows = self.known_raw(false);
+            if opaque {
+                rows.known_opaque()
+                    .draw_by::<CachedClutRows, L>(vram, steps);
+            } else {
+                rows.draw_by::<CachedClutRows, L>(vram, steps);
+            }
+        }
+    }
+
+    // The same for a CLUT of 256 entries: by one loop for opaque pixels, and one for others.
+    #[inline(never)]
+    fn draw_clut256<L: Ledger>(&self, vram: &mut Vram, steps: &mut Steps<L>)
+        requires can { CanDrawTexelRows (height_of vram.old) self.now }
+        requires keeps { CanCacheRows256 self.now }
+        ensures { DrawsTexelRows self.now
+            (record { m = vram.old; steps = steps.old }) (record { m = vram.new; steps = steps.new }) }
+    {
+        let rows = self.known_raw(false);
+        if rows.is_opaque() {
+            rows.known_opaque()
+                .draw_by::<CachedClut256Rows, L>(vram, steps);
+        } else {
+            rows.draw_by::<CachedClut256Rows, L>(vram, steps);
+        }
+    }
+
+    // Draws texels, choosing the loop for each row.
+    #[inline(never)]
+    fn draw_each<L: Ledger>(&self, vram: &mut Vram, steps: &mut Steps<L>)
+        requires { CanDrawTexelRows (height_of vram.old) self.now }
+        ensures { DrawsTexelRows self.now
+            (record { m = vram.old; steps = steps.old }) (record { m = vram.new; steps = steps.new }) }
+    {
+        self.draw_by::<AnyRows, L>(vram, steps);
+    }
+
+    // Draws contiguous texels whose CLUT is not cached.
+    #[inline(never)]
+    fn draw_uncached<L: Ledger>(&self, vram: &mut Vram, steps: &mut Steps<L>)
+        requires can { CanDrawTexelRows (height_of vram.old) self.now }
+        requires contiguous { AreRowsContiguous self.now }
+        ensures { DrawsTexelRows self.now
+            (record { m = vram.old; steps = steps.old }) (record { m = vram.new; steps = steps.new }) }
+    {
+        self.draw_by::<ContiguousRows, L>(vram, steps);
+    }
+
+    /// Draws all cells of the clip rectangle, row by row. The outcome is that of any pattern with the pixels of these
+    /// rows.
+    pub fn draw<L: Ledger>(&self, vram: &mut Vram, steps: &mut Steps<L>)
+        requires { CanDrawTexelRows (height_of vram.old) self.now }
+        ensures { DrawsTexelRows self.now
+            (record { m = vram.old; steps = steps.old }) (record { m = vram.new; steps = steps.new }) }
+    {
+        if !self.are_contiguous() {
+            self.draw_each(vram, steps)
+        } else if !self.has_cacheable_clut() {
+            self.draw_uncached(vram, steps)
+        } else if self.texture.page.depth == 0 {
+            self.draw_clut16(vram, steps)
+        } else {
+            self.draw_clut256(vram, steps)
         }
     }
 }

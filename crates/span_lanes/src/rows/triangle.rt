@@ -9,20 +9,21 @@ use crate::attributes::ramps::{AttributeRamps, CoordRamps, attribute_ramps_of, c
 use crate::attributes::shading::{Shading, has_undithered_clut16, one_color};
 use crate::attributes::triangle_setup::{TriangleSetup, triangle_setup_of, triangle_setup_with};
 use crate::clut::clut16::draw_cached;
-use crate::clut::modulated::ColoredClut;
+use crate::clut::modulated::ModulatedClut;
 use crate::hazard::is_clip_hazard_free;
 use crate::rows::by_ramps::{draw_flat_texels, draw_gouraud_texels};
 use crate::rows::contiguous::draw_contiguous_row;
-use crate::span::{empty_span, is_opaque, opaque};
+use crate::rows::row_drawer::RowDrawer;
+use crate::span::{Run, empty_span, is_opaque, opaque};
 use crate::texels::sampler::FlatTexels;
 use crate::texels::texel_run::triangle_row_run;
-use crate::{Brush, ClipRect, RowDrawer, Run, Span, Texture};
+use crate::{Brush, ClipRect, Span, Texture};
 use edge_walk::Tri;
 use std::sync::ledger::Ledger;
 use vram_store::{Steps, Vram};
 
 /// How the texels of a triangle's rows are drawn. No row may have a hazard.
-pub trait TexelMethod: Drop {
+pub(crate) trait TexelMethod: Drop {
     ghost use Rattle.std.specs.Prelude.{ℕ, List};
     ghost use Rattle.edge_walk.specs.Triangle.{Corners};
     ghost use Rattle.texel_lanes.specs.declared.texture.Texture.{Texture};
@@ -53,7 +54,7 @@ pub trait TexelMethod: Drop {
 
 /// Draws the rows of a textured triangle in a clip rectangle that has no cell of the texture page or the CLUT.
 #[derive(Drop)]
-pub struct TriangleDrawer<M> {
+pub(crate) struct TriangleDrawer<M> {
     // the last row that was drawn; at first one of no cells
     span: Span,
     clip: ClipRect,
@@ -63,7 +64,7 @@ pub struct TriangleDrawer<M> {
 impl<M: TexelMethod> TriangleDrawer<M> {
     /// Computes what is equal for all rows. `color` is the one colour of all cells, if the method needs that.
     #[inline(always)]
-    pub fn new(
+    pub(crate) fn new(
         tri: &Tri,
         texture: &Texture,
         brush: &Brush,
@@ -108,15 +109,15 @@ impl<M: TexelMethod> RowDrawer for TriangleDrawer<M> {
 
 /// How the rows of a triangle are drawn, if none has a hazard.
 #[derive(Clone, Copy)]
-pub enum RowMethod {
-    /// Contiguous texels of four bits under one colour: the CLUT is coloured once, and no pixel is blended or tested
-    /// ([`CachedClutMethod`](crate::CachedClutMethod)).
+pub(crate) enum RowMethod {
+    /// Contiguous texels of four bits under one colour: the CLUT is modulated once, and no pixel is blended or tested
+    /// (`CachedClutMethod`).
     CachedClut { color: u32 },
-    /// Contiguous texels ([`ContiguousMethod`](crate::ContiguousMethod)).
+    /// Contiguous texels (`ContiguousMethod`).
     Contiguous,
-    /// Texels by their coordinates, under one colour ([`FlatTexelsMethod`](crate::FlatTexelsMethod)).
+    /// Texels by their coordinates, under one colour (`FlatTexelsMethod`).
     FlatTexelsByCoords { color: u32 },
-    /// Texels by their coordinates, under several colours ([`GouraudTexelsMethod`](crate::GouraudTexelsMethod)).
+    /// Texels by their coordinates, under several colours (`GouraudTexelsMethod`).
     GouraudTexels,
 }
 
@@ -143,9 +144,9 @@ pub(crate) fn is_contiguous(tri: &Tri, texture: &Texture) -> bool
 }
 
 /// Returns how the rows of a triangle are drawn in a clip rectangle. `None` if that may have a cell of the texture page
-/// or the CLUT: then [`SpanDrawer`](crate::SpanDrawer) draws them, and tests each row.
+/// or the CLUT: then `SpanDrawer` draws them, and tests each row.
 #[inline(always)]
-pub fn row_method(
+pub(crate) fn row_method(
     tri: &Tri,
     texture: &Texture,
     brush: &Brush,
@@ -167,17 +168,17 @@ pub fn row_method(
     })
 }
 
-/// Contiguous texels of four bits under one colour: the CLUT is coloured once, and no pixel is blended or tested.
+/// Contiguous texels of four bits under one colour: the CLUT is modulated once, and no pixel is blended or tested.
 #[derive(Drop)]
-pub struct CachedClutMethod {
+pub(crate) struct CachedClutMethod {
     setup: TriangleSetup,
     color: u32,
     // the CLUT that was read last, and what the colour makes of it
-    last: Option<ColoredClut>,
+    last: Option<ModulatedClut>,
 }
 
 impl TexelMethod for CachedClutMethod {
-    ghost use Rattle.span_lanes.specs.ColoredClut.{IsCached};
+    ghost use Rattle.span_lanes.specs.Clut.ModulatedClut.{IsCached};
     ghost use Rattle.span_lanes.specs.TriangleDrawer.{IsCachedClutMethod, IsRowMethod};
     ghost use Rattle.span_lanes.specs.declared.rows.triangle.RowMethod.TheVariants.{CachedClut};
 
@@ -210,14 +211,14 @@ impl TexelMethod for CachedClutMethod {
 
 /// Contiguous texels.
 #[derive(Drop)]
-pub struct ContiguousMethod {
+pub(crate) struct ContiguousMethod {
     setup: TriangleSetup,
     // the CLUT that was read last, and what a colour makes of it
-    last: Option<ColoredClut>,
+    last: Option<ModulatedClut>,
 }
 
 impl TexelMethod for ContiguousMethod {
-    ghost use Rattle.span_lanes.specs.ColoredClut.{IsCached};
+    ghost use Rattle.span_lanes.specs.Clut.ModulatedClut.{IsCached};
     ghost use Rattle.span_lanes.specs.TriangleDrawer.{AreContiguous, IsContiguousMethod};
 
     ghost accepts = { λ tri t brush color. AreContiguous tri t };
@@ -240,16 +241,16 @@ impl TexelMethod for ContiguousMethod {
 
 /// Draws the texels of a triangle of one colour. Computes the coordinates of each texel.
 #[derive(Drop)]
-pub struct FlatTexelsMethod {
+pub(crate) struct FlatTexelsMethod {
     texture: Texture,
     color: u32,
     coord_ramps: CoordRamps,
     // the CLUT that was read last, and what the colour makes of it
-    last: Option<ColoredClut>,
+    last: Option<ModulatedClut>,
 }
 
 impl TexelMethod for FlatTexelsMethod {
-    ghost use Rattle.span_lanes.specs.ColoredClut.{IsCached};
+    ghost use Rattle.span_lanes.specs.Clut.ModulatedClut.{IsCached};
     ghost use Rattle.span_lanes.specs.SpanDrawer.{IsShadingOf};
     ghost use Rattle.span_lanes.specs.TriangleDrawer.{IsFlatTexelsMethod};
     ghost use Rattle.span_lanes.specs.declared.attributes.shading.Shading.TheVariants.{OneColor};
@@ -282,7 +283,7 @@ impl TexelMethod for FlatTexelsMethod {
 
 /// Draws the texels of a triangle of several colours. Computes the coordinates and the colour of each texel.
 #[derive(Drop)]
-pub struct GouraudTexelsMethod {
+pub(crate) struct GouraudTexelsMethod {
     texture: Texture,
     ramps: AttributeRamps,
 }

@@ -1,5 +1,5 @@
 // One cell of a span: its pixel, and how it is drawn.
-ghost use Rattle.std.specs.Prelude.{◌≡◌, ◌≤◌, ◌<◌, ◌+◌, pos, IsTrue, ◌*◌, length};
+ghost use Rattle.std.specs.Prelude.{◌≡◌, ◌≤◌, ◌<◌, ◌+◌, pos, IsTrue, ◌*◌, length, Some};
 ghost use Rattle.blend_dither.specs.Color.{IsShift};
 ghost use Rattle.edge_walk.specs.Triangle.{is_inside};
 ghost use Rattle.vram_store.specs.Vram.{at, height_of};
@@ -45,17 +45,25 @@ fn front(raw: bool, color: u32, shift: i8, t: u16) -> u16
     if raw { t } else { modulate(t, color, shift) }
 }
 
-#[tactic(auto, unfolding(crate::specs::Shade::flat_pixel))]
-fn untextured_pixel(brush: &Brush, color: u32, shift: i8, back: u16) -> Option<u16>
-    requires mode { brush.now.mode ≤ 3 }
-    requires shift { IsShift shift }
-    ensures { result ≡ flat_pixel brush.now color shift back }
-{
-    Some(pack(
-        blend_if(brush.semi, brush.mode, back, tone(color, shift)),
-        false,
-        false,
-    ))
+impl Brush {
+    /// Returns the dither offset of a colour at (`x`, `y`), or 0 without dither.
+    pub fn dither_offset(&self, x: u16, y: u16) -> i8
+        ensures value { result ≡ dither_of self.now.dither x y }
+        ensures small { IsShift result }
+    {
+        shift_for(self.dither, x, y)
+    }
+
+    /// Returns the pixel of a colour without a texture over a cell with the value `back`. `shift` is the dither offset.
+    #[tactic(auto, unfolding(crate::specs::Shade::flat_pixel))]
+    pub fn pixel_over(&self, color: u32, shift: i8, back: u16) -> u16
+        requires mode { self.now.mode ≤ 3 }
+        requires shift { IsShift shift }
+        ensures { Some result ≡ flat_pixel self.now color shift back }
+    {
+        let front = blend_if(self.semi, self.mode, back, tone(color, shift));
+        pack(front, false, false)
+    }
 }
 
 #[tactic(auto, unfolding(crate::specs::Shade::textured_pixel))]
@@ -118,12 +126,13 @@ fn pixel_of<L: Ledger>(
 {
     match &span.paint {
         Paint::Flat { color } => {
-            let shift = shift_for(span.brush.dither, span.x + i, span.y);
-            untextured_pixel(&span.brush, *color, shift, back)
+            let shift = span.brush.dither_offset(span.x + i, span.y);
+            Some(span.brush.pixel_over(*color, shift, back))
         }
         Paint::Shaded { tri } => {
-            let shift = shift_for(span.brush.dither, span.x + i, span.y);
-            untextured_pixel(&span.brush, color_of(tri, span.x + i, span.y), shift, back)
+            let shift = span.brush.dither_offset(span.x + i, span.y);
+            let color = color_of(tri, span.x + i, span.y);
+            Some(span.brush.pixel_over(color, shift, back))
         }
         Paint::TexturedTri { tri, texture } => {
             let shift = shift_for(span.brush.dither && !texture.raw, span.x + i, span.y);

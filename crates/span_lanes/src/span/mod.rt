@@ -1,11 +1,14 @@
 // Spans and their chunks, what their cells are drawn with, and clip rectangles.
-ghost use Rattle.std.specs.Prelude.{◌≡◌, IsTrue, false};
+ghost use Rattle.std.specs.Prelude.{ℕ, ◌≡◌, IsTrue, false};
+ghost use Rattle.span_lanes.specs.Figures.Boxes.{IsOnScreen, clip_rect_of};
+ghost use Rattle.span_lanes.specs.ClipRect.{IsClipRect};
 ghost use Rattle.span_lanes.specs.SpanDrawer.{state_of};
 ghost use Rattle.span_lanes.specs.declared.span.Paint.TheVariants.{TexturedTri};
 
 pub(crate) mod cell;
 
 use edge_walk::Tri;
+use px_num::Box2;
 use texel_lanes::Texture;
 
 /// Pixel settings: how pixels are written to their cells.
@@ -68,11 +71,11 @@ pub struct DrawState {
 
 /// Consecutive cells of a row.
 #[derive(Clone, Copy)]
-pub struct Run {
+pub(crate) struct Run {
     /// The first column.
-    pub x: u16,
+    pub(crate) x: u16,
     /// The number of cells, at least 1.
-    pub n: u16,
+    pub(crate) n: u16,
 }
 
 /// Consecutive cells of one row, with what they are drawn with.
@@ -179,4 +182,22 @@ pub struct ClipRect {
     pub w: u16,
     /// The number of rows, at least 1.
     pub h: u16,
+}
+
+impl ClipRect {
+    /// Returns a box as a clip rectangle. It must have at least one cell and be within 1024 columns and rows.
+    #[inline(always)]
+    #[tactic(auto, unfolding(crate::specs::Figures::Boxes::clip_rect_of))]
+    pub fn from_box(b: &Box2) -> ClipRect
+        requires { IsOnScreen 1024 b.now }
+        ensures value { result ≡ clip_rect_of b.now }
+        ensures clip_rect { (height : ℕ) → IsOnScreen height b.now → IsClipRect height result }
+    {
+        ClipRect {
+            x: b.x1 as u16,
+            y: b.y1 as u16,
+            w: (b.x2 - b.x1 + 1) as u16,
+            h: (b.y2 - b.y1 + 1) as u16,
+        }
+    }
 }

@@ -2,12 +2,12 @@
 ghost use Rattle.std.specs.Prelude.{◌≡◌, ◌≤◌, ◌+◌, ◌*◌};
 ghost use Rattle.texel_lanes.specs.Texture.{texel_steps};
 ghost use Rattle.span_lanes.specs.Draws.{CanSample, IsChunk};
-ghost use Rattle.span_lanes.specs.CachedClut.{HasIndexes};
+ghost use Rattle.span_lanes.specs.Clut.CachedClut.{HasIndexes};
 ghost use Rattle.span_lanes.specs.RowSetup.{HasTexels};
-ghost use Rattle.span_lanes.specs.Lanes.{HasCoordinates};
+ghost use Rattle.span_lanes.specs.Chunks.Lanes.{HasCoordinates};
 ghost use Rattle.span_lanes.specs.Paints.{chunk_u, chunk_v};
 ghost use Rattle.span_lanes.specs.Shade.{IsSpan};
-ghost use Rattle.span_lanes.specs.TexCoords.{CanRead};
+ghost use Rattle.span_lanes.specs.Attributes.TexCoords.{CanRead};
 
 use crate::span::Chunk;
 use crate::{Span, Texture};

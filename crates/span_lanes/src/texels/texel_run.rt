@@ -5,10 +5,10 @@ ghost use Rattle.texel_lanes.specs.Texture.{IsTexture};
 ghost use Rattle.span_lanes.specs.Shade.{IsSpan};
 ghost use Rattle.span_lanes.specs.Paints.{row_paint};
 ghost use Rattle.span_lanes.specs.SpanDrawer.{state_of};
-ghost use Rattle.span_lanes.specs.TriangleSetup.{IsSetupOf};
+ghost use Rattle.span_lanes.specs.Attributes.TriangleSetup.{IsSetupOf};
 ghost use Rattle.span_lanes.specs.TexelRun.{IsRising, IsTexelRun};
 ghost use Rattle.span_lanes.specs.TriangleDrawer.{AreContiguous};
-ghost use Rattle.span_lanes.specs.CachedClut.{HasIndexes};
+ghost use Rattle.span_lanes.specs.Clut.CachedClut.{HasIndexes};
 ghost use Rattle.span_lanes.specs.Draws.{CanSample, IsChunk};
 
 use crate::attributes::tex_coords::value_of;

@@ -17,7 +17,8 @@ words-preserved g c =
       done = at.done ++ c.in-Some.word ∷ [];
       are = at.are ∙ ap (λ words. at.done ++ words) c.in-Some.ensures
           ∙ sym (append_assoc at.done (c.in-Some.word ∷ []) _);
-      fed = fed_on _ _ _ _ _ _ _ _ _ _ at.fed _ c.in-Ok.ensures.feeds;
+      fed = fed_on _ _ _ _ _ _ _ _ _ _ at.fed _
+          (rw (← g.met.O.Outlet.same_mode _ _ at.same) at c.in-Ok.ensures.feeds);
       same = g.met.O.Outlet.same_on _ _ _ at.same c.in-Ok.ensures.same;
     }
 
@@ -26,4 +27,4 @@ returns-in-Err-clause-feeds g c =
     let at = c.words.invariant in
     words_stop _ _ _ _ _ _ _ _ _ _ at.fed _ _ _
     (at.are ∙ ap (λ words. at.done ++ words) c.in-Some.ensures ∙ sym (append_assoc at.done (c.in-Some.word ∷ []) _))
-    c.in-Err.ensures.feeds
+    (rw (← g.met.O.Outlet.same_mode _ _ at.same) at c.in-Err.ensures.feeds)

@@ -7,7 +7,7 @@ abbrev pub invariant-words : goal.invariant-words
 invariant-words g l = record {
   done : List ℕ;
   are : l.fn.words.value ≡ done ++ l.left;
-  fed : AreFed l.event_in_mode.mode l.event_in_mode.number done
+  fed : AreFed (g.O.Outlet.mode l.fn.lines) l.number done
       (with_sink (g.O.Outlet.state l.fn.lines) (map g.T.Listener.heard l.fn.taps.items) l.fn.steps)
       (with_sink (g.O.Outlet.state l.lines) (map g.T.Listener.heard l.taps.items) l.steps) l.fn.gpu l.gpu;
   same : g.O.Outlet.same l.fn.lines l.lines;

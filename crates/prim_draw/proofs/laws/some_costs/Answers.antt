@@ -5,15 +5,17 @@ use Rattle.edge_walk.specs.Extent.{bounding_box}
 use Rattle.edge_walk.specs.Triangle.{edge, oriented, is_drawn, is_on_side, is_within}
 use Rattle.span_lanes.specs.Cells.{row_cells}
 use Rattle.span_lanes.specs.Cost.{span_cost}
-use Rattle.span_lanes.specs.Guard.{has_hazard, paint_texels}
+use Rattle.span_lanes.specs.Hazard.Guard.{has_hazard, paint_texels}
 use Rattle.span_lanes.specs.Shade.{row_u}
-use Rattle.prim_draw.specs.Boxes.{some_box, overlap, clip_rect_of}
-use Rattle.prim_draw.specs.Costs.{draw_cost, polygon_cost, rectangle_cost, side_by_side, triangle_cost}
+use Rattle.prim_draw.specs.Boxes.{some_box, overlap}
+use Rattle.span_lanes.specs.Figures.Boxes.{clip_rect_of}
+use Rattle.prim_draw.specs.Costs.{draw_cost, polygon_cost, rectangle_cost, triangle_cost}
+use Rattle.span_lanes.specs.Figures.Rows.{side_by_side}
 use Rattle.prim_draw.specs.Laws.{open_registers, raw_rectangle, white_half}
 use Rattle.prim_draw.specs.Parts.{rectangle_style}
 use Rattle.span_lanes.specs.Pattern.{Pattern, span_from}
 use Rattle.prim_draw.specs.Rectangles.{extent_at, pattern_of, rectangle_box, rectangle_setup_in, rectangle_paint}
-use Rattle.prim_draw.proofs.RowLemmas.{span_of_row}
+use Rattle.span_lanes.proofs.RowLemmas.{span_of_row}
 use Rattle.gp1_status.specs.Drawing.{drawing_area}
 use Rattle.prim_draw.specs.Settings.{brush_in, placed, texture_in}
 use Rattle.prim_draw.specs.Triangles.{triangle_box, triangle_state, triangle_paint}

@@ -18,10 +18,11 @@ pub returns-in-Some-clause-cells : goal.returns-in-Some-clause-cells
 returns-in-Some-clause-cells g c =
     let brush = c.args.brush.now in
     let m = c.args.vram.now in
-    let fits : SFits w8 c.shift_for-shift.result = search rules in
+    let fits : SFits w8 c.dither_offset-shift.result = search rules in
     let pixel : Some c.pixel_over-pixel.result
     ≡ flat_pixel brush c.args.color (dither_of brush.dither c.args.to.x c.args.to.y) (at m c.args.to.x c.args.to.y) =
-    rw (← c.shift_for-shift.ensures.value, ← c.get-back.ensures.value) (simp to_z-of_z at c.pixel_over-pixel.ensures) in
+    rw (← c.dither_offset-shift.ensures.value, ← c.get-back.ensures.value)
+    (simp to_z-of_z at c.pixel_over-pixel.ensures) in
     c.put.ensures.cells ∙ put-written m brush.mask c.args.to.x c.args.to.y _ _ _ _ c.get-back.ensures.value pixel
     (sym c.in-Some.is ∙ c.write_color.ensures)
 
@@ -29,9 +30,10 @@ pub returns-in_default-clause-cells : goal.returns-in_default-clause-cells
 returns-in_default-clause-cells g c =
     let brush = c.args.brush.now in
     let m = c.args.vram.now in
-    let fits : SFits w8 c.shift_for-shift.result = search rules in
+    let fits : SFits w8 c.dither_offset-shift.result = search rules in
     let pixel : Some c.pixel_over-pixel.result
     ≡ flat_pixel brush c.args.color (dither_of brush.dither c.args.to.x c.args.to.y) (at m c.args.to.x c.args.to.y) =
-    rw (← c.shift_for-shift.ensures.value, ← c.get-back.ensures.value) (simp to_z-of_z at c.pixel_over-pixel.ensures) in
+    rw (← c.dither_offset-shift.ensures.value, ← c.get-back.ensures.value)
+    (simp to_z-of_z at c.pixel_over-pixel.ensures) in
     put-written m brush.mask c.args.to.x c.args.to.y _ _ _ _ c.get-back.ensures.value pixel
     (sym c.in_default.is ∙ c.write_color.ensures)

@@ -14,9 +14,9 @@ returns-clause-cells g c =
     let to = c.args.to in
     let place = 1024 * to.y + to.x in
     let f : Option ℕ → List ℕ = λ p. draw_at brush.mask place p m in
-    let fits : SFits w8 c.shift_for-shift.result = search rules in
+    let fits : SFits w8 c.dither_offset-shift.result = search rules in
     let pixel : Some c.pixel_over-pixel.result ≡ flat_pixel brush c.args.color (dither_of brush.dither to.x to.y) 0 =
-    rw (← c.shift_for-shift.ensures.value) (simp to_z-of_z at c.pixel_over-pixel.ensures) in
+    rw (← c.dither_offset-shift.ensures.value) (simp to_z-of_z at c.pixel_over-pixel.ensures) in
     c.put.ensures.cells
     ∙ ap (λ h. set m to.x to.y h) c.force.ensures
     ∙ plot_untested m brush.mask to.x to.y c.pixel_over-pixel.result c.requires.untested

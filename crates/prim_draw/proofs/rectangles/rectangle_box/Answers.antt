@@ -1,16 +1,16 @@
 use Rattle.std.proofs.Common.{ℕ, Option, IfSome}
 use Rattle.px_num.specs.declared.shape.Box2.{Box2}
-use Rattle.prim_draw.specs.Boxes.{clip_rect_of, IsOnScreen, LiesIn}
+use Rattle.span_lanes.specs.Figures.Boxes.{clip_rect_of, IsOnScreen, LiesInBox}
 use Rattle.prim_draw.specs.Rectangles.{cells_box, IsExtent, IsPartOf}
 use Rattle.prim_draw.specs.declared.rectangles.Extent.{Extent}
 use Rattle.prim_draw.proofs.BoxLemmas.{if_both, part_of}
 use Rattle.prim_draw.proofs.rectangles.rectangle_box.Goals as goal
 
 part : (e : Extent) (height : ℕ) (found : Option Box2) → IsExtent e
-    → IfSome found (IsOnScreen height) → IfSome found (LiesIn (cells_box e))
+    → IfSome found (IsOnScreen height) → IfSome found (LiesInBox (cells_box e))
     → IfSome found (λ b. IsPartOf e (clip_rect_of b))
 part e height found is on lies =
-    if_both {P = IsOnScreen height} {Q = LiesIn (cells_box e)} {R = λ b. IsPartOf e (clip_rect_of b)} found
+    if_both {P = IsOnScreen height} {Q = LiesInBox (cells_box e)} {R = λ b. IsPartOf e (clip_rect_of b)} found
     (λ b. part_of e height b is) on lies
 
 pub returns-else-extent-eq0-2-clause-part : goal.returns-else-extent-eq0-2-clause-part

@@ -2,7 +2,7 @@ use Rattle.std.proofs.Common.{◌≡◌, refl, arith}
 use Rattle.texture_page.specs.Page.{windowed}
 use Rattle.overlap_guard.specs.Hazard.{has_texel_hazard, has_strip_hazard}
 use Rattle.span_lanes.specs.Shade.{row_u}
-use Rattle.span_lanes.specs.Guard.{paint_texels, has_hazard}
+use Rattle.span_lanes.specs.Hazard.Guard.{paint_texels, has_hazard}
 use Rattle.span_lanes.specs.Cost.{span_cost}
 use Rattle.span_lanes.specs.Laws.{raw_row}
 use Rattle.span_lanes.proofs.laws.some_costs.Goals as goal

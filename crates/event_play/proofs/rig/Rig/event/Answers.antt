@@ -11,9 +11,9 @@ pub returns-in-Ok-perform-clause-stepped : goal.returns-in-Ok-perform-clause-ste
 returns-in-Ok-perform-clause-stepped g c =
     let was = opened c.self.inside in
     let mid = opened c.self-in-Ok.inside in
-    let did = has_done _ was mid _ c.next_number.result _ _ _ _ _ _ c.in-Ok.ensures.value c.self-in-Ok.view_is
+    let did = has_done _ was mid _ c.next_number-number.result _ _ _ _ _ _ c.in-Ok.ensures.value c.self-in-Ok.view_is
     c.in-Ok-perform.ensures.performs.ok in
-    rw (← c.self.view_is, ← c.next_number.ensures) (λ s stands.
+    rw (← c.self.view_is, ← c.next_number-number.ensures) (λ s stands.
     let step = only_stepped _ _ _ _ _ _ _ (did s stands) in
     record {
       machine = step.machine;

@@ -48,13 +48,14 @@ returns-in_default-clause-plays g c =
       ends = λ t stands free.
           let number = c.next_number-number.ensures ∙ ap next_number (sym stands.played) in
           let inside = opened_stands c.self.inside _ t c.self.view_is stands in
+          let same = c.in-Ok-perform.ensures.same.2 in
           inr (
             number,
             (shows_part _ was mid _ t c.next_number-number.result _ _ _ _ _ _ _ _ c.in-Ok.ensures.value
                 c.self-2.view_is inside number
                 c.in-Ok-perform.ensures.performs.ok (λ s e. (c.in-Ok-perform.ensures.puts s e).ok)
-                c.in-Ok-perform.ensures.performs.kept free c.in_default.ensures.mode
-                c.in_default.ensures.writes.failed c.in_default.ensures.cost),
+                c.in-Ok-perform.ensures.performs.kept free (rw (← same) at c.in_default.ensures.mode)
+                (rw (← same) at c.in_default.ensures.writes.failed) (rw (← same) at c.in_default.ensures.cost)),
           );
       causes = record {
         kept = omega (arith, c.in-Ok-perform.ensures.performs.faults, c.in_default.ensures.writes.faults);
@@ -70,10 +71,11 @@ returns-in-Ok-write_after-clause-plays g c =
       ok = λ t stands free.
           let number = c.next_number-number.ensures ∙ ap next_number (sym stands.played) in
           let inside = opened_stands c.self.inside _ t c.self.view_is stands in
+          let same = c.in-Ok-perform.ensures.same.2 in
           plays _ was mid _ t c.next_number-number.result _ _ _ _ _ _ _ _ c.in-Ok.ensures.value c.self-2.view_is
           inside number c.in-Ok-perform.ensures.performs.ok (λ s e. (c.in-Ok-perform.ensures.puts s e).ok)
           c.in-Ok-perform.ensures.performs.kept free
-          c.in-Ok-write_after.ensures.writes.ok c.in-Ok-write_after.ensures.cost;
+          (rw (← same) at c.in-Ok-write_after.ensures.writes.ok) (rw (← same) at c.in-Ok-write_after.ensures.cost);
       ends = λ t stands free. tt;
       causes = record {
         kept = omega (arith, c.in-Ok-perform.ensures.performs.faults, c.in-Ok-write_after.ensures.writes.faults);

@@ -25,8 +25,7 @@ events-init g c = record {
   write_faults = omega arith;
   reader = refl;
   source = refl;
-  buffered = refl;
-  out = refl;
+  same = (refl, refl, refl);
 }
 
 pub returns-in-Err-write_before_words-clause-ends : goal.returns-in-Err-write_before_words-clause-ends
@@ -41,6 +40,7 @@ returns-in-Err-write_before_words-clause-ends g c = λ s e.
 
 pub returns-in-Err-play_read-clause-ends : goal.returns-in-Err-play_read-clause-ends
 returns-in-Err-play_read-clause-ends g c = λ s e.
+    let mode = c.events.invariant.same.2 ∙ c.in-Ok-write_before_words.ensures.same.2 in
     let awaits = awaits_is _ _ _ _ _ _ _ _ _ _ c.in-Ok.is (c.events.invariant.awaits s e) in
     let started = rw c.in-Ok.is at c.events.invariant.known in
     let paused = event_pauses _ _ _ _ _ _ _ c.in-Ok-write_before_words.offset _ _ _
@@ -48,10 +48,11 @@ returns-in-Err-play_read-clause-ends g c = λ s e.
     let read = c.read-stopped.ensures in
     rw (c.play_ending.ensures, c.next_number.ensures)
     (read_ends _ _ _ _ _ _ _ _ _ _ _ _ c.in-Ok.event paused (rw read.goes_on.version started)
-    (λ is. let few = read.few is in let near = c.in-Ok-write_before_words.ensures.near in omega (arith, few, near)) _
+    (λ is. let few = read.few (rw mode at is) in let near = c.in-Ok-write_before_words.ensures.near in
+    omega (arith, few, near)) _
     c.read-stopped.new.self c.read-stopped.result c.in-Err-play_read.halt
-    (g.K.Sink.held c.end_after-ended.new.out) c.end_after-ended.result read.block
-    c.in-Err-play_read.ensures.plays read.reads read.stop
+    (g.K.Sink.held c.end_after-ended.new.out) c.end_after-ended.result (rw (← mode) at read.block)
+    (rw (← mode) at c.in-Err-play_read.ensures.plays) read.reads read.stop
     (from_small s c.args.self.now.played c.args.capture.now.reader.now.progress)
     c.end_after-ended.ensures.ends)
 
@@ -63,29 +64,34 @@ returns-in-Err-clause-ends g c = λ s e.
     reading_ends _ _ _ _ mid _ _ _ _ c.in-Err.stop awaits
     (from_small s c.args.self.now.played c.args.capture.now.reader.now.progress)
     refl c.end_reading-in-Err.result
-    (c.end_reading-in-Err.ensures.ends awaits.replay.state.gpu awaits.stands.state.gpu)
+    (rw (← c.events.invariant.same.2) at c.end_reading-in-Err.ensures.ends awaits.replay.state.gpu
+    awaits.stands.state.gpu)
 
 pub returns-in-Err-stopped-clause-ends : goal.returns-in-Err-stopped-clause-ends
 returns-in-Err-stopped-clause-ends g c = λ s e.
+    let mode = c.events.invariant.same.2 ∙ c.in-Ok-write_before_words.ensures.same.2 in
     let awaits = awaits_is _ _ _ _ _ _ _ _ _ _ c.in-Ok.is (c.events.invariant.awaits s e) in
     let started = rw c.in-Ok.is at c.events.invariant.known in
     let paused = event_pauses _ _ _ _ _ _ _ c.in-Ok-write_before_words.offset _ _ _
     (g.K.Sink.held c.write_before_words.new.lines.out.now) awaits started c.in-Ok-write_before_words.ensures.ok in
     let read = c.read-stopped.ensures in
     let stopped = read_stops _ _ _ _ _ _ _ _ _ _ _ _ c.in-Ok.event paused (rw read.goes_on.version started)
-    (λ is. let few = read.few is in let near = c.in-Ok-write_before_words.ensures.near in omega (arith, few, near))
-    c.read-stopped.new.self c.in_default.field-0 c.in-Err-stopped.stop read.block
-    c.in_default.ensures.plays c.in-Err-stopped.ensures.stop in
+    (λ is. let few = read.few (rw mode at is) in let near = c.in-Ok-write_before_words.ensures.near in
+    omega (arith, few, near))
+    c.read-stopped.new.self c.in_default.field-0 c.in-Err-stopped.stop (rw (← mode) at read.block)
+    (rw (← mode) at c.in_default.ensures.plays) c.in-Err-stopped.ensures.stop in
     let mid = buffering c.play_read.new.lines.buffered.now (outlets (g.K.Sink.held c.play_read.new.lines.out.now)
     (g.K.Sink.faults c.play_read.new.lines.out.now) (map g.T.Listener.heard c.play_read.new.taps.items)
     c.play_read.new.steps) in
     reading_ends _ _ _ _ mid _ _ _ _ c.in-Err-stopped.stop stopped
     (from_small s c.args.self.now.played c.args.capture.now.reader.now.progress)
     refl c.end_reading.result
-    (c.end_reading.ensures.ends stopped.replay.state.gpu stopped.stands.state.gpu)
+    (rw (← (mode ∙ c.play_read.ensures.same.2)) at c.end_reading.ensures.ends stopped.replay.state.gpu
+    stopped.stands.state.gpu)
 
 pub returns-in-Err-write_before_event-clause-ends : goal.returns-in-Err-write_before_event-clause-ends
 returns-in-Err-write_before_event-clause-ends g c = λ s e.
+    let mode = c.events.invariant.same.2 ∙ c.in-Ok-write_before_words.ensures.same.2 in
     let awaits = awaits_is _ _ _ _ _ _ _ _ _ _ c.in-Ok.is (c.events.invariant.awaits s e) in
     let started = rw c.in-Ok.is at c.events.invariant.known in
     let paused = event_pauses _ _ _ _ _ _ _ c.in-Ok-write_before_words.offset _ _ _
@@ -93,9 +99,10 @@ returns-in-Err-write_before_event-clause-ends g c = λ s e.
     let read = c.read-stopped.ensures in
     pause_ends _ _ _ _ _ _ _ _ (g.K.Sink.held c.write_before_event.new.lines.out.now) c.in-Err-write_before_event.event
     (read_went _ _ _ _ _ _ _ _ _ _ _ _ c.in-Ok.event paused (rw read.goes_on.version started)
-    (λ is. let few = read.few is in let near = c.in-Ok-write_before_words.ensures.near in omega (arith, few, near))
-    c.read-stopped.new.self c.in_default.field-0 read.block
-    c.in_default.ensures.plays c.in_default-stopped.ensures.reads)
+    (λ is. let few = read.few (rw mode at is) in let near = c.in-Ok-write_before_words.ensures.near in
+    omega (arith, few, near))
+    c.read-stopped.new.self c.in_default.field-0 (rw (← mode) at read.block)
+    (rw (← mode) at c.in_default.ensures.plays) c.in_default-stopped.ensures.reads)
     (from_small s c.args.self.now.played c.args.capture.now.reader.now.progress)
     c.in-Err-write_before_event.ensures.failed
 
@@ -136,16 +143,17 @@ pub events-preserved : goal.events-preserved
 events-preserved g c =
     record {
       awaits = λ s e.
+          let mode = c.events.invariant.same.2 ∙ c.in-Ok-write_before_words.ensures.same.2 in
           let awaits = awaits_is _ _ _ _ _ _ _ _ _ _ c.in-Ok.is (c.events.invariant.awaits s e) in
           let started = rw c.in-Ok.is at c.events.invariant.known in
           let paused = event_pauses _ _ _ _ _ _ _ c.in-Ok-write_before_words.offset _ _ _
           (g.K.Sink.held c.write_before_words.new.lines.out.now) awaits started c.in-Ok-write_before_words.ensures.ok in
           let read = c.read-stopped.ensures in
           let went = read_went _ _ _ _ _ _ _ _ _ _ _ _ c.in-Ok.event paused (rw read.goes_on.version started)
-          (λ is. let few = read.few is in let near = c.in-Ok-write_before_words.ensures.near in
+          (λ is. let few = read.few (rw mode at is) in let near = c.in-Ok-write_before_words.ensures.near in
           omega (arith, few, near))
-          c.read-stopped.new.self c.in_default.field-0 read.block
-          c.in_default.ensures.plays c.in_default-stopped.ensures.reads in
+          c.read-stopped.new.self c.in_default.field-0 (rw (← mode) at read.block)
+          (rw (← mode) at c.in_default.ensures.plays) c.in_default-stopped.ensures.reads in
           let again = pauses_on _ _ _ _ _ _ _ c.in-Ok-write_before_event.offset _ _
           (g.K.Sink.held c.write_before_event.new.lines.out.now)
           went (rw read.goes_on.version started) c.in-Ok-write_before_event.ensures.ok in
@@ -173,12 +181,13 @@ events-preserved g c =
       );
       reader = c.events.invariant.reader;
       source = c.events.invariant.source;
-      buffered =
-          c.in-Ok-write_before_event.ensures.buffered
-          ∙ (c.play_read.ensures.buffered
-          ∙ (c.in-Ok-write_before_words.ensures.buffered ∙ c.events.invariant.buffered));
-      out =
-          c.in-Ok-write_before_event.ensures.out
-          ∙ (c.play_read.ensures.out
-          ∙ (c.in-Ok-write_before_words.ensures.out ∙ c.events.invariant.out));
+      same =
+          let was = c.events.invariant.same in
+          let paused = c.in-Ok-write_before_words.ensures.same in
+          let played = c.play_read.ensures.same in
+          let again = c.in-Ok-write_before_event.ensures.same in (
+            was.0 ∙ paused.0 ∙ played.0 ∙ again.0,
+            was.1 ∙ paused.1 ∙ played.1 ∙ again.1,
+            was.2 ∙ paused.2 ∙ played.2 ∙ again.2,
+          );
     }

@@ -11,7 +11,7 @@ use Rattle.event_play.proofs.rig.Rig.play_rest.Given as goal
 
 abbrev pub invariant-events : goal.invariant-events
 invariant-events g l = record {
-  awaits : (s : Machine) → Stands l.fn.self s → Awaits l.mode
+  awaits : (s : Machine) → Stands l.fn.self s → Awaits l.fn.lines.mode
       (script_after (from_state s l.fn.self.played) l.fn.capture.reader.now.progress)
       (streams (g.S.Source.left l.fn.capture.source.now) (g.K.Sink.held l.fn.lines.out.now)
       (map g.T.Listener.heard l.fn.taps.items) l.fn.steps)
@@ -26,8 +26,8 @@ invariant-events g l = record {
   read_faults : g.S.Source.faults l.fn.capture.source.now ≤ g.S.Source.faults l.capture.source.now;
   reader : l.capture.reader.ghost_name ≡ l.fn.capture.reader.ghost_name;
   source : l.capture.source.ghost_name ≡ l.fn.capture.source.ghost_name;
-  buffered : l.lines.buffered.ghost_name ≡ l.fn.lines.buffered.ghost_name;
-  out : l.lines.out.ghost_name ≡ l.fn.lines.out.ghost_name;
+  same : (l.fn.lines.buffered.ghost_name ≡ l.lines.buffered.ghost_name)
+      × (l.fn.lines.out.ghost_name ≡ l.lines.out.ghost_name) × (l.fn.lines.mode ≡ l.lines.mode);
   write_faults : g.K.Sink.faults l.fn.lines.out.now ≤ g.K.Sink.faults l.lines.out.now;
 }
 

@@ -15,11 +15,11 @@ returns-in-Ok-clause-plays g c =
       ok = λ t stands free.
           let number = c.next_number-number.ensures ∙ ap next_number (sym stands.played) in
           let inside = opened_stands c.self.inside _ t c.self.view_is stands in
-          plays _ was fed fed t c.next_number-number.result _ (operation.Feed (One c.args.word.value) was.running)
+          plays _ was fed fed t c.next_number-number.result _ (operation.Feed (One c.args.word) was.running)
           None _ _ _ _ _ refl refl inside number
-          (λ s e. word_done _ was c.next_number-number.result c.args.word.value _ _ _ s (c.in-Ok.ensures.feeds.ok s e))
+          (λ s e. word_done _ was c.next_number-number.result c.args.word _ _ _ s (c.in-Ok.ensures.feeds.ok s e))
           (λ s e. (c.in-Ok.ensures.feeds.puts s e).ok) c.in-Ok.ensures.feeds.kept free
-          (nothing_after c.args.word.mode _) (omega arith);
+          (nothing_after c.args.lines.now.mode _) (omega arith);
       ends = λ t stands free. tt;
       causes = record { kept = c.in-Ok.ensures.feeds.faults; cause = λ x. absurd x };
     }
@@ -33,7 +33,7 @@ returns-in-Err-clause-plays g c =
           let number = c.next_number-number.ensures ∙ ap next_number (sym stands.played) in
           let inside = opened_stands c.self.inside _ t c.self.view_is stands in
           inl (feeds_part _ was _ t c.next_number-number.result _
-          (operation.Feed (One c.args.word.value) was.running) _ _ _
+          (operation.Feed (One c.args.word) was.running) _ _ _
           refl inside number c.in-Err.ensures.feeds.buffers
           (c.in-Err.ensures.feeds.puts t.state.gpu inside.state.gpu).failed
           (record { feeding = c.in-Err.ensures.feeds.failed t.state.gpu inside.state.gpu; ram = refl; running = refl })

@@ -1,5 +1,5 @@
 use Rattle.std.proofs.Common.{◌+◌, ◌-◌, List, Ok, Err, option_to_list, take, drop, length, length-drop}
-use Rattle.std.proofs.Common.{◌∙◌, refl, subst, sym, arith}
+use Rattle.std.proofs.Common.{◌∙◌, refl, subst, arith}
 use Rattle.gathered_out.specs.Pieces.{Piece}
 use Rattle.gathered_out.specs.Puts.{holding}
 use Rattle.event_play.specs.Listing.{ArePut, PutsPieces, listed_pieces}
@@ -14,8 +14,7 @@ words-init g c = record {
   told = λ t first told. told_none t first _ _ _ (omega (arith, c.ranges.fed.1)) told;
   puts = λ t first told. none_put _;
   faults = omega arith;
-  buffered = refl;
-  out = refl;
+  same = (refl, refl, refl);
 }
 
 pub returns-clause-told : goal.returns-clause-told
@@ -64,11 +63,11 @@ returns-in-Err-clause-causes g c =
     let puts = c.in-Err.ensures.puts in
     record { kept = omega (arith, was, puts.faults); cause = λ x. omega (arith, was, puts.cause) }
 
-pub returns-in-Err-clause-buffered : goal.returns-in-Err-clause-buffered
-returns-in-Err-clause-buffered g c = sym c.in-Err.ensures.same.0 ∙ c.words.invariant.buffered
-
-pub returns-in-Err-clause-out : goal.returns-in-Err-clause-out
-returns-in-Err-clause-out g c = sym c.in-Err.ensures.same.1 ∙ c.words.invariant.out
+pub returns-in-Err-clause-same : goal.returns-in-Err-clause-same
+returns-in-Err-clause-same g c =
+    let was = c.words.invariant.same in
+    let same = c.in-Err.ensures.same in
+    (was.0 ∙ same.0, was.1 ∙ same.1, was.2 ∙ same.2)
 
 pub words-preserved : goal.words-preserved
 words-preserved g c =
@@ -96,6 +95,8 @@ words-preserved g c =
           (listed_pieces (option_to_list c.feed_noted-noted.result.note)) (Ok c.in_default.field-0)
           (c.words.invariant.puts t first told) c.in_default.ensures.puts.puts).ok;
       faults = let a = c.words.invariant.faults in let b = c.in_default.ensures.puts.faults in omega (arith, a, b);
-      buffered = sym c.in_default.ensures.same.0 ∙ c.words.invariant.buffered;
-      out = sym c.in_default.ensures.same.1 ∙ c.words.invariant.out;
+      same =
+          let was = c.words.invariant.same in
+          let same = c.in_default.ensures.same in
+          (was.0 ∙ same.0, was.1 ∙ same.1, was.2 ∙ same.2);
     }

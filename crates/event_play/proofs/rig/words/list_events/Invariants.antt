@@ -22,8 +22,8 @@ invariant-words g l = record {
       (holding (g.K.Sink.held l.initial.lines.out.now) l.initial.lines.buffered.now)
       (holding (g.K.Sink.held l.lines.out.now) l.lines.buffered.now);
   faults : g.K.Sink.faults l.initial.lines.out.now ≤ g.K.Sink.faults l.lines.out.now;
-  buffered : l.lines.buffered.ghost_name ≡ l.initial.lines.buffered.ghost_name;
-  out : l.lines.out.ghost_name ≡ l.initial.lines.out.ghost_name;
+  same : (l.initial.lines.buffered.ghost_name ≡ l.lines.buffered.ghost_name)
+      × (l.initial.lines.out.ghost_name ≡ l.lines.out.ghost_name) × (l.initial.lines.mode ≡ l.lines.mode);
 }
 
 abbrev pub decreases-words : goal.decreases-words

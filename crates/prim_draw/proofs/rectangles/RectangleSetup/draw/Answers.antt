@@ -15,11 +15,11 @@ unfolding drawn_rectangle
 returns-in-Some-clause-cells g c =
     let box : rectangle_box c.args.regs.now c.args.extent.now ≡ Some c.in-Some.clip =
     sym c.rectangle_box-area.ensures.value ∙ c.in-Some.is in
-    rw (box, ← c.clip_rect_of.ensures.value) c.draw.ensures.cells
+    rw (box, ← c.from_box.ensures.value) c.draw.ensures.cells
 
 pub returns-in-Some-clause-cost : goal.returns-in-Some-clause-cost
 unfolding rectangle_cost
 returns-in-Some-clause-cost g c =
     let box : rectangle_box c.args.regs.now c.args.extent.now ≡ Some c.in-Some.clip =
     sym c.rectangle_box-area.ensures.value ∙ c.in-Some.is in
-    rw (box, ← c.clip_rect_of.ensures.value) c.draw.ensures.cost
+    rw (box, ← c.from_box.ensures.value) c.draw.ensures.cost

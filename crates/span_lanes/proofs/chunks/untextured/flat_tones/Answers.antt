@@ -13,9 +13,9 @@ returns c = record {
       let again = c.requires.offsets.value j lane ∙ shift_again span.brush.dither span.x x span.y j
       (omega (arith, c.requires.chunk.cut)) in
       let same_x : span.x + (c.args.chunk.now.first + j) ≡ x = omega arith in
-      let hue = rw same_x at (c.requires.colors c.args.chunk.now.first j lane
+      let one_color = rw same_x at (c.requires.colors c.args.chunk.now.first j lane
       (omega (arith, lt, c.requires.chunk.within))) in
-      rw (← hue, ← again) (c.flat_lanes.ensures.value j lane);
+      rw (← one_color, ← again) (c.flat_lanes.ensures.value j lane);
 }
 
 pub flat_lanes-requires-clause-none : goal.flat_lanes-requires-clause-none

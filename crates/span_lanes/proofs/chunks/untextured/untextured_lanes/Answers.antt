@@ -1,7 +1,7 @@
 use Rattle.std.proofs.Common.{ℕ, ◌≡◌, ◌<◌, ◌+◌, ◌*◌, get_or, ap, ◌∙◌, arith}
 use Rattle.span_lanes.specs.Shade.{flat_pixel, dither_of}
 use Rattle.span_lanes.specs.Paints.{paint_color}
-use Rattle.span_lanes.specs.Lanes.{DoesFor}
+use Rattle.span_lanes.specs.Chunks.Lanes.{DoesFor}
 use Rattle.vram_store.proofs.Ones.{ones}
 use Rattle.span_lanes.proofs.BackLemmas.{flat_back}
 use Rattle.span_lanes.proofs.UntexturedLemmas.{shade_toned, toned_is, toned_lane}

@@ -1,5 +1,5 @@
 use Rattle.std.proofs.Common.{sym, arith}
-use Rattle.span_lanes.specs.Guard.{has_hazard}
+use Rattle.span_lanes.specs.Hazard.Guard.{has_hazard}
 use Rattle.span_lanes.proofs.GuardLemmas.{cells_same}
 use Rattle.span_lanes.proofs.PlanLemmas.{apart_free}
 use Rattle.span_lanes.proofs.rows.by_coords.has_hazard.Goals as goal

@@ -2,21 +2,21 @@ use Rattle.std.proofs.Common.{◌≡◌, ◌+◌, ◌&&◌, not, ℕ, List, leng
 use Rattle.px_num.specs.Lanes.{EachLane}
 use Rattle.texel_lanes.specs.declared.texture.Texture.{Texture}
 use Rattle.texel_lanes.specs.Table.{entry_at}
-use Rattle.span_lanes.specs.declared.clut.modulated.ColoredClut.{ColoredClut}
+use Rattle.span_lanes.specs.declared.clut.modulated.ModulatedClut.{ModulatedClut}
 use Rattle.span_lanes.specs.declared.span.Chunk.{Chunk}
-use Rattle.span_lanes.specs.CachedClut.{HasIndexes}
-use Rattle.span_lanes.specs.ColoredClut.{IsColoredClutOf}
+use Rattle.span_lanes.specs.Clut.CachedClut.{HasIndexes}
+use Rattle.span_lanes.specs.Clut.ModulatedClut.{IsModulatedClutOf}
 use Rattle.span_lanes.specs.RowSetup.{HasTexels}
 use Rattle.span_lanes.proofs.TexelLemmas.{empty_chunk}
 use Rattle.span_lanes.proofs.ColorLemmas.{no_shift}
-use Rattle.span_lanes.proofs.ColoredClutLemmas.{clut_missed, swatches_kept}
+use Rattle.span_lanes.proofs.ModulatedClutLemmas.{clut_missed, swatches_kept}
 use Rattle.span_lanes.proofs.PlanLemmas.{apart_cost}
 use Rattle.span_lanes.proofs.ChunkDrawLemmas.{sample_stays}
 use Rattle.span_lanes.proofs.chunks.textured.CachedClutChunkDrawer.draw_chunk.Goals as goal
 
 -- the entries at the indexes of a chunk's texels are its texels
-cached_texels : (t : Texture) (p : Chunk) (m index texels : List ℕ) (cached : ColoredClut)
-    → IsColoredClutOf t m cached → HasIndexes t 16 p m index → p.k ≤ 16 → length texels ≡ 16
+cached_texels : (t : Texture) (p : Chunk) (m index texels : List ℕ) (cached : ModulatedClut)
+    → IsModulatedClutOf t m cached → HasIndexes t 16 p m index → p.k ≤ 16 → length texels ≡ 16
     → EachLane (λ i. slice_index texels i ≡ entry_at cached.entries (slice_index index i)) → HasTexels t p m texels
 cached_texels t p m index texels cached clut has few long entry = record {
   long = long;
@@ -36,16 +36,16 @@ draw_texels-requires-clause-drawn g c =
     let span = chunk.span.now in
     record {
       texels = cached_texels c.args.self.now.texture chunk c.args.vram.now _ c.texels_by_index-drawn.result.texels
-          c.args.self.now.colored_clut.now c.requires.serves.entries c.read_indexes-index.ensures.indexes
+          c.args.self.now.modulated_clut.now c.requires.serves.entries c.read_indexes-index.ensures.indexes
           c.requires.chunk.few c.texels_by_index-drawn.ensures.long.0 c.texels_by_index-drawn.ensures.texels;
       long = c.texels_by_index-drawn.ensures.long.1;
       front = λ j lt.
           let x : ℕ = span.x + chunk.first + j in
           let lane : j < 16 = omega arith in
           let same_x : span.x + (chunk.first + j) ≡ x = omega arith in
-          let hue = rw same_x at (c.requires.serves.can.hue chunk.first j lane (omega arith)) in
+          let one = rw same_x at (c.requires.serves.can.one_color chunk.first j lane (omega arith)) in
           let even = c.requires.serves.can.suits.even in
-          rw (← hue, no_shift (span.brush.dither && not c.args.self.now.texture.raw) x span.y even)
+          rw (← one, no_shift (span.brush.dither && not c.args.self.now.texture.raw) x span.y even)
           (c.texels_by_index-drawn.ensures.modulated j lane);
     }
 
@@ -73,11 +73,11 @@ returns-then-not-SKIPS_EMPTY_CHUNKS-clause-serves g c =
       can = record {
         sample = sample_stays is.can.sample c.draw_texels.ensures.others.count;
         suits = is.can.suits;
-        hue = is.can.hue;
+        one_color = is.can.one_color;
       };
       finds = is.finds;
       raw = is.raw;
-      colored = is.colored;
+      modulated = is.modulated;
       entries = swatches_kept c.args.self.now.texture (chunk.span.now.x + chunk.first) chunk.span.now.y chunk.k _ _ _
           c.draw_texels.ensures.others (omega arith) none is.entries;
     }
@@ -90,7 +90,7 @@ returns-else-not-are_zero-clause-drawn g c =
     let suits = c.requires.serves.can.suits in
     let cost = (rw suits.depth at (apart_cost chunk texture c.requires.chunk suits.hazard_free sample.texture)) in
     let texels = cached_texels texture chunk c.args.vram.now _ c.texels_by_index-drawn.result.texels
-    c.args.self.now.colored_clut.now c.requires.serves.entries c.read_indexes-index.ensures.indexes
+    c.args.self.now.modulated_clut.now c.requires.serves.entries c.read_indexes-index.ensures.indexes
     c.requires.chunk.few c.texels_by_index-drawn.ensures.long.0 c.texels_by_index-drawn.ensures.texels in
     record {
       cells = empty_chunk texture chunk c.args.vram.now _ sample.texture texels c.requires.chunk.few

@@ -1,6 +1,6 @@
 use Rattle.std.proofs.Common.{◌≡◌, ◌+◌, ◌&&◌, not, ℕ, ◌<◌, ◌∙◌, refl, arith}
 use Rattle.span_lanes.proofs.ColorLemmas.{no_shift}
-use Rattle.span_lanes.proofs.ColoredClutLemmas.{clut_missed, swatches256_kept}
+use Rattle.span_lanes.proofs.ModulatedClutLemmas.{clut_missed, swatches256_kept}
 use Rattle.span_lanes.proofs.PlanLemmas.{apart_cost}
 use Rattle.span_lanes.proofs.ChunkDrawLemmas.{sample_stays}
 use Rattle.span_lanes.proofs.clut.clut256.CachedClut256ChunkDrawer.draw_chunk.Goals as goal
@@ -30,9 +30,9 @@ draw_texels-requires-clause-drawn g c =
           let x : ℕ = span.x + chunk.first + j in
           let lane : j < 16 = omega arith in
           let same_x : span.x + (chunk.first + j) ≡ x = omega arith in
-          let hue = rw same_x at (c.requires.serves.0.can.hue chunk.first j lane (omega arith)) in
+          let one = rw same_x at (c.requires.serves.0.can.one_color chunk.first j lane (omega arith)) in
           let even = c.requires.serves.0.can.suits.even in
-          rw (← hue, no_shift (span.brush.dither && not c.args.self.now.texture.raw) x span.y even, drawn.texels j lane)
+          rw (← one, no_shift (span.brush.dither && not c.args.self.now.texture.raw) x span.y even, drawn.texels j lane)
           (drawn.modulated j lane ∙ c.requires.serves.0.entries.front _ (indexes.low j lane));
     }
 
@@ -62,7 +62,7 @@ returns-clause-serves g c =
         can = record {
           sample = sample_stays is.can.sample c.draw_texels.ensures.others.count;
           suits = is.can.suits;
-          hue = is.can.hue;
+          one_color = is.can.one_color;
         };
         entries = swatches256_kept c.args.self.now.texture (chunk.span.now.x + chunk.first) chunk.span.now.y chunk.k _ _
             _

@@ -7,7 +7,7 @@ draw_chunks-requires g c =
       record {
         can = can_color_row 1 c.args.rows.now c.args.at.y c.args.at.v c.args.vram.now c.requires.ready.0.cache
             c.requires.can;
-        entries = c.fill.ensures.colored;
+        entries = c.fill.ensures.modulated;
       },
       c.texel_run.ensures c.args.at.y,
     )

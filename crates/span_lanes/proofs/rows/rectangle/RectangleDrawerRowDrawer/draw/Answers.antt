@@ -20,7 +20,7 @@ draw_row-requires-clause-can g c =
     let is = row_is rows c.args.y _ c.args._run whole c.texel_row-v.ensures in
     record {
       can = subst (λ (s : Span). CanDraw s c.args.vram.now) is c.requires.can;
-      in_block = record { left = omega arith; right = omega arith; top = whole.top; bottom = whole.bottom };
+      in_clip = record { left = omega arith; right = omega arith; top = whole.top; bottom = whole.bottom };
       row = c.texel_row-v.ensures;
     }
 
