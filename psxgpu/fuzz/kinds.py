@@ -27,12 +27,12 @@ TEXTS = {'unused-bits': 'bits that mean nothing', 'factor': 'a factor', 'texture
          'forced-mask': 'forced mask bits', 'tested-mask': 'tested mask bits'}
 # How a fact begins, and facts that it implies.
 IMPLIED = [(begin, ('texture', 'depth', 'page')) for begin in (
-    'a scaled', 'a page', 'a palette', 'U ', 'V ', 'an even U', 'a window', 'it is drawn', 'depth 3', '4-bit', '8-bit',
-    '15-bit')] + [
+    'a scaled', 'a page', 'a palette', 'U ', 'V ', 'an even U', 'a window', 'its texels', 'its palette', 'depth 3',
+    '4-bit', '8-bit', '15-bit')] + [
     ('several colours', ('shades',)), ('blending', ('semi-transparency', 'blend-mode')),
     ('a sum beyond', ('offset',)), ('an offset', ('offset',)), ('a negative offset', ('offset', 'an offset Y')),
     ('a window', ('window',)), ('a tie', ('sloped', 'longer than a cell')), ('steep', ('longer than a cell',)),
-    ('an unfinished load', ('load',)), ('sloped', ('longer than a cell',)),
+    ('an unfinished load', ('load',)), ('a read after', ('a store',)), ('sloped', ('longer than a cell',)),
     ('it overlaps itself to', ('it overlaps itself',))]
 
 

@@ -28,6 +28,7 @@ ENDS: Record = (GP1, 1, (0,))
 CUT, INTERLACED = (0x28, 0x48, 0xA0), 0x08000024     # opcodes that are cut; the mode of 480 lines
 SETTINGS, IRQ = 7, 0x1F     # the upper three bits of E0h to FFh; the opcode that sets status bit 24
 STORES = frozenset(['width 0', 'height 0', 'an odd number of cells', 'size bits above its fields'])
+AFTER = 'a read after the words of a store'
 SIZES = (0x00000001, 0x00010000, 0x02010001, 0x00010401)      # of stores: 0, and with bits above the fields
 
 
@@ -75,13 +76,14 @@ def facts_of(records: Sequence[Record]) -> FrozenSet[str]:
     """Returns what a sequence has: control words, packets, and what is unfinished."""
     out: Set[str] = set()
     left, is_open = 0, False        # words of a store, and whether another word comes before them
+    is_after = False
     for kind, count, words in records:
         is_open |= left > 0 and kind in (GP0, GP1)
         if kind == GP1:
             out |= control_facts(words[0])
             left = left if words[0] >> 24 & 0x3F > 1 else 0
         elif kind == READ:
-            left -= count
+            is_after, left = left < count, left - count
         elif kind == GP0:
             text, left = packet_facts(words)
             out |= {text} | unused_facts(words)
@@ -90,6 +92,7 @@ def facts_of(records: Sequence[Record]) -> FrozenSet[str]:
         out = out - {'a store', 'an odd number of cells'} | {'an open store'}
     if 'an unfinished load' in out:
         out.add(LOAD)
+    out |= {AFTER} if is_after and records[-1][0] == READ and 'a store' in out else set()
     if records[-1][0] == STAT:
         out -= {'an odd number of cells'}       # which matters in what is read
     elif 'an open store' not in out and not any(kind == GP1 and words[0] >> 24 & 0x3F > 15

@@ -46,6 +46,19 @@ class Parts(unittest.TestCase):
         self.assertNotIn('y-flip', facts_of(FLIPPED))
         self.assertIn('an earlier packet', facts_of((*FLIPPED, FLIPPED[-1])))
 
+    def test_what_is_overwritten(self):
+        """A rectangle on its palette or texels, X modulo 1024, or after a packet that is. Another place is not."""
+        def found(place, mode, coord, *before):
+            facts = facts_of(packed([(0xE1000000 | mode,), *before, (0x65000000, place, coord, 0x00010010)]))
+            return {fact for fact in facts if fact.endswith('overwritten')}
+        texels, palette, far = {'its texels are overwritten'}, {'its palette is overwritten'}, 0x40000000
+        self.assertEqual(found(0, 8, 0), palette)
+        self.assertEqual(found(512, 8, far), texels)
+        self.assertEqual(found(600, 8, far), set())
+        self.assertEqual(found(36, 0x8F, far | 200), texels)
+        self.assertEqual(found(600, 8, far, (0x02000000, 512, 0x00100010)), texels)
+        self.assertEqual(found(600, 8, 0, (0xA0000000, 0, 0x00010002, 0)), palette)
+
     def test_what_conditions_have(self):
         self.assertEqual(closed(frozenset(['an even U', 'a tie'])), {'an even U', 'a tie', 'texture'})
         self.assertEqual(closed(frozenset(['blending B-F'])), {'blending B-F', 'semi-transparency'})
@@ -134,6 +147,8 @@ class Parts(unittest.TestCase):
         store, read, status = (GP0, 3, (0xC0000000, 0, 0x00010003)), (READ, 2, ()), (STAT, 1, ())
         for records, facts in (
                 ([store, read], {'a store', 'an odd number of cells'}), ([store, status], {'an open store'}),
+                ([store, read, read], {'a store', 'an odd number of cells', 'a read after the words of a store'}),
+                ([store, read, status], {'a store'}),
                 ([store, (GP0, 1, (0xE1000000,)), read], {'an open store', 'E1h'}), ([read], {'nothing before it'}),
                 ([(GP0, 2, (0x20000000, 0)), status], {'an unfinished packet'}),
                 ([(GP1, 1, (0x10000003,)), read], {'GP1(10h) 2 to 5'}),
