@@ -31,7 +31,8 @@ VAGUE = frozenset(['quad', 'polyline', 'semi-transparency', 'factor', 'shades', 
 # A packet of one row or column may be drawn nowhere.
 ONE_MORE = frozenset(['width above 1', 'height above 1'])
 # How conditions begin that are often there by chance.
-INCIDENTAL = 'width above', 'height above', 'an odd number', 'one c', 'sides off', 'longer than', 'a fixed', 'cut '
+INCIDENTAL = ('width above', 'height above', 'an odd number', 'one c', 'sides off', 'longer than', 'a fixed', 'cut ',
+              'a negative offset')
 # How conditions begin, and the feature that each has.
 HAVING = [('blending', 'semi-transparency'), *((begin, 'texture') for begin in (
     'a scaled', 'an even U', 'U ', 'V ', 'a page', 'a palette', 'a window ', 'its texels', 'its palette', *DEPTHS))]

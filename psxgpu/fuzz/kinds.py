@@ -16,6 +16,9 @@ from psxgpu.reduce.features import name_of
 
 KINDS = 'kinds'
 STATUS, READS = 'status', 'reads'        # names of kinds that are no packets
+AFTER = 'a read after the words of a store'         # facts of reads
+ASKED_NOTHING = 'no question before it', 'a load and no question before it'
+CORNER = 'an area corner with Y above 511'          # a fact of packets, too
 UNUSED = ' with bits that mean nothing'  # a fact of a sequence: after the name of a packet
 KEPT = 10                   # batches after which a worker keeps what it has seen
 MOST_WORDS = 30             # of a capture; more are remarked
@@ -32,7 +35,8 @@ IMPLIED = [(begin, ('texture', 'depth', 'page')) for begin in (
     ('several colours', ('shades',)), ('blending', ('semi-transparency', 'blend-mode')),
     ('a sum beyond', ('offset',)), ('an offset', ('offset',)), ('a negative offset', ('offset', 'an offset Y')),
     ('a window', ('window',)), ('a tie', ('sloped', 'longer than a cell')), ('steep', ('longer than a cell',)),
-    ('an unfinished load', ('load',)), ('a read after', ('a store',)), ('sloped', ('longer than a cell',)),
+    ('an unfinished load', ('load',)), ('a read after', ('a store',)), ('a load and', ('load',)),
+    ('sloped', ('longer than a cell',)),
     ('it overlaps itself to', ('it overlaps itself',))]
 
 

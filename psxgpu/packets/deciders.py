@@ -72,8 +72,8 @@ RULES: List[Tuple[Callable[[Case], bool], str, str, str]] = [
     (lambda it: it.name == LINE, OWN, 'Lines', 'which points: to the nearest, ties to the greater'),
     (lambda it: it.name == RECTANGLE, SPX, 'Rectangles', 'corner and size'),
     (lambda it: it.name == 'status', OWN, 'The status word', 'what each bit says, and when'),
-    (lambda it: it.name == 'reads' and it.has('nothing before it', 'an unfinished load',
-                                              'a read after the words of a store'), OWN,
+    (lambda it: it.name == 'reads' and it.has('no question before it', 'a load and no question before it',
+                                              'an unfinished load', 'a read after the words of a store'), OWN,
      'Copies, loads and stores', 'a read without a store returns the latch, which is 0 at first'),
     (lambda it: it.name == 'reads', SPX, 'Registers', 'what a read returns')]
 ANY = Decision(OWN, 'GP0 words and packets', 'what has no name does nothing')

@@ -33,7 +33,7 @@ DROP = (GP1 << 24 | 1, 0x01000000)          # ends what is unfinished
 IDLE = (0,) * 12                # ends packets of a player that keeps them unfinished
 REGISTERS = range(0xE1, 0xE7)
 CLEAR = 0x01000000              # empties the caches of players that have some
-TENTH, LOWEST, LAST = 1 << 19, 511 << 10, 0x7FFFF   # of E4h: the tenth bit of the last row, the last row, all cells
+TENTH, LOWEST, LAST = 1 << 19, 1023 << 10, 0x7FFFF     # of E4h: the tenth bit of the last row, all ten, all cells
 Words = Tuple[int, ...]
 Experiment = Tuple[Words, ...]
 Boxes = Tuple[List[Box], List[Box]]
@@ -102,7 +102,7 @@ def targets(name: str, words: Sequence[int], registers: Dict[int, int], lower: S
     yield from target_of(name, words, registers)
     yield from wrapped_targets(name, words, registers)
     for word in lower:
-        yield from target_of(name, words, {**registers, 0xE4: word & 0x7FFFF})
+        yield from target_of(name, words, {**registers, 0xE4: word & 0xFFFFF})
 
 
 @lru_cache(4096)
