@@ -22,7 +22,7 @@ from psxgpu.fuzz.rules import Samples
 from psxgpu.output import Content
 from psxgpu.packets import deciders
 from psxgpu.packets.generated import CLASSES
-from psxgpu.players.bench import LOST, Bench, DumpBench
+from psxgpu.players.bench import LOST, Bench, DumpBench, boxes_of
 from psxgpu.players.looks import LOST as BROKEN
 from psxgpu.players.looks import ALONE, BIT_15, COLOURS, EDGES, NOTHING, OTHERS, STEP, may_be_one
 from psxgpu.players.named import Done, Player, player_of
@@ -58,6 +58,11 @@ class Parts(unittest.TestCase):
         self.assertEqual(found(36, 0x8F, far | 200), texels)
         self.assertEqual(found(600, 8, far, (0x02000000, 512, 0x00100010)), texels)
         self.assertEqual(found(600, 8, 0, (0xA0000000, 0, 0x00010002, 0)), palette)
+
+    def test_boxes_of_sums(self):
+        """The sums of a polyline's Y are -2017, -2040 and -2016: 31, 8 and 32 with eleven bits. X is 710 and 711."""
+        line = packed([(0xE52001FE,), (0x58FFFFFF, 0x041F00C9, 0, 0x040800C8, 0, 0x042000C8, 0x55555555)])
+        self.assertEqual(boxes_of(line), ([(708, 6, 713, 34)], []))
 
     def test_what_conditions_have(self):
         self.assertEqual(closed(frozenset(['an even U', 'a tie'])), {'an even U', 'a tie', 'texture'})
