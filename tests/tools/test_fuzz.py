@@ -147,6 +147,18 @@ class Parts(unittest.TestCase):
         self.assertEqual(sorted(sorted(cause.keys) for cause in found), [['a', 'b'], ['c'], ['d'], ['e', 'f']])
         self.assertEqual(len(causes({key: kinds[key] for key in 'eg'}, Samples())), 2)
 
+    def test_causes_of_sequences(self):
+        """A store and the packet whose cells it reads only show a difference. Ten bits of a corner's Y are a cause of
+        their own, also where a packet shows them."""
+        corner = 'an area corner with Y above 511'
+        kinds = {'a': kind('reads', ['a store', 'fill', 'an odd number of cells']),
+                 'b': kind('reads', ['a store', 'load', 'an odd number of cells']),
+                 'c': kind('reads', ['a store', 'load', 'size 0']),
+                 'd': kind('reads', ['E3h', 'GP1(10h) 2 to 5']), 'e': kind('reads', ['E2h', 'GP1(10h) 2 to 5']),
+                 'f': kind('reads', ['E3h', 'GP1(10h) 2 to 5', corner]), 'g': kind('rectangle', [corner], ALONE)}
+        found = causes(kinds, Samples())
+        self.assertEqual(sorted(sorted(cause.keys) for cause in found), [['a', 'b'], ['c'], ['d', 'e'], ['f', 'g']])
+
     def test_sequences(self):
         """What is open, unfinished or asked for in a sequence of records."""
         store, read, status = (GP0, 3, (0xC0000000, 0, 0x00010003)), (READ, 2, ()), (STAT, 1, ())
