@@ -205,7 +205,7 @@ class Bench:
         def differ(count: int) -> bool:
             data = self.capture(experiments[:count], boxes[:count])
             mine, theirs = (dump_of(player.run('vram', data, self.seconds)) for player in (self.ours, self.theirs))
-            return mine != theirs
+            return theirs is not None and mine != theirs        # a player that breaks down has no dump
         found = bisect(len(experiments), differ)
         return found - 1 if found else None
 
