@@ -87,8 +87,8 @@ def common_rule(one: Kind, other: Kind, samples: Samples) -> Optional[Facts]:
     """Returns the facts that one cause of two kinds needs; None if they are two causes.
 
     Of one packet, they are one cause if one needs all that the other needs, or if they look alike and share a
-    condition. Of two packets, if both need the same facts about the same rule. What else is one cause, experiments have
-    to show (`psxgpu.fuzz.asking`)."""
+    condition, about the same rule of docs/MACHINE.md. Of two packets, if both need the same facts about the same rule.
+    What else is one cause, experiments have to show (`psxgpu.fuzz.asking`)."""
     both, plain = one.rule & other.rule, [kind.rule - ONE_MORE for kind in (one, other)]
     names = {one.name, other.name}
     if len(names) > 1 and len(names & SEQUENCES) == 1:
@@ -104,7 +104,7 @@ def common_rule(one: Kind, other: Kind, samples: Samples) -> Optional[Facts]:
     is_alike = other.look in similar(one.look)
     if plain[0] & plain[1] in plain:
         return both if is_case(one, other, samples) else None
-    is_told = one.name in SEQUENCES or any(
+    is_told = one.name in SEQUENCES or one.decision == other.decision and any(
         fact not in GENERAL and not fact.startswith(INCIDENTAL) for fact in both)
     return both if is_alike and is_told else mirrored_rule(one, other)
 

@@ -188,8 +188,8 @@ class Reading:
             yield GP0, cut, tuple(packet[:cut])
         elif way == 4:
             size = r.choice((1, 1, 2, 3, 5)) | r.choice((1, 1, 2, 3)) << 16
-            if r.random() < 0.1:        # cells that are not 0 tell what is stored
-                size = r.choice(SIZES)
+            size = r.choice(SIZES) if r.random() < 0.1 else size
+            if r.random() < 0.3:        # cells that are not 0 tell what is stored
                 yield GP0, 3, (0x02000000 | r.getrandbits(24), 0, 0x01FF03FF)
             yield GP0, 3, (0xC0000000, r.randrange(600) | r.randrange(400) << 16, size)
             yield READ, r.choice((data_words(size), r.randrange(1, data_words(size) + 2))), ()

@@ -147,6 +147,15 @@ class Parts(unittest.TestCase):
         self.assertEqual(sorted(sorted(cause.keys) for cause in found), [['a', 'b'], ['c'], ['d'], ['e', 'f']])
         self.assertEqual(len(causes({key: kinds[key] for key in 'eg'}, Samples())), 2)
 
+    def test_causes_of_two_rules(self):
+        """An even U may be there by chance in a rectangle that is drawn over its palette."""
+        kinds = {'a': kind('rectangle', ['x-flip', 'an even U', 'texture'], COLOURS),
+                 'b': kind('rectangle', ['an even U', 'its palette is overwritten', 'texture'], COLOURS),
+                 'c': kind('rectangle', ['an even U', 'U below 0', 'x-flip', 'y-flip', 'texture'], COLOURS)}
+        found = causes({key: kinds[key] for key in 'ab'}, Samples())
+        self.assertEqual([cause.keys for cause in found], [['a'], ['b']])
+        self.assertEqual(len(causes({key: kinds[key] for key in 'ac'}, Samples())), 1)
+
     def test_causes_of_sequences(self):
         """A store and the packet whose cells it reads only show a difference. Ten bits of a corner's Y are a cause of
         their own, also where a packet shows them."""
