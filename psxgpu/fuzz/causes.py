@@ -6,7 +6,7 @@ from dataclasses import replace
 from typing import Dict, FrozenSet, List, NamedTuple, Optional
 
 from psxgpu.fuzz.conditions import BLENDING, DEPTHS, DRAWN, INCIDENTAL, NO_CONDITIONS, ONE_MORE, VAGUE
-from psxgpu.fuzz.kinds import AFTER, CORNER, READS, STATUS, UNUSED, Kind, sentence
+from psxgpu.fuzz.kinds import CORNER, READS, STATUS, UNUSED, Kind, sentence
 from psxgpu.fuzz.rules import Samples
 from psxgpu.packets.grammar import COPY, FILL, LOAD
 from psxgpu.players.looks import ALONE, COLOURS, LOST, NOTHING, OUTSIDE, SHAPES, may_be_one, similar
@@ -14,7 +14,7 @@ from psxgpu.players.looks import ALONE, COLOURS, LOST, NOTHING, OUTSIDE, SHAPES,
 GENERAL = NO_CONDITIONS.union(DEPTHS, BLENDING)     # two causes may need the same one of these
 SEQUENCES, UNUSED_BITS = {READS, STATUS}, 'unused-bits'
 # What shows a difference in a sequence says nothing about its cause.
-SHOWING = frozenset(['a store', AFTER, 'nop', *DRAWN, FILL, COPY, LOAD])
+SHOWING = frozenset(['a store', 'nop', *DRAWN, FILL, COPY, LOAD])
 PAIRS = [('x-flip', 'y-flip'), ('U below 0', 'V below 0'), ('U above 255', 'V above 255'),
          ('cut on the left', 'cut at the top'), ('cut on the right', 'cut at the bottom'),
          ('wider than 1023', 'higher than 511'), ('a negative offset X', 'a negative offset Y'),

@@ -81,16 +81,18 @@ def facts_of(records: Sequence[Record]) -> FrozenSet[str]:
     """Returns what a sequence has: control words, packets, and what is unfinished."""
     out: Set[str] = set()
     left, is_open = 0, False        # words of a store, and whether another word comes before them
-    is_after = False
+    is_after = is_asked = False     # the last read is none of a store, and a question came after the last store
     for kind, count, words in records:
         is_open |= left > 0 and kind in (GP0, GP1)
         if kind == GP1:
             out |= control_facts(words[0])
             left = left if words[0] >> 24 & 0x3F > 1 else 0
+            is_asked |= words[0] >> 24 & 0x3F > 15
         elif kind == READ:
             is_after, left = left < count, left - count
         elif kind == GP0:
             text, left = packet_facts(words)
+            is_asked &= text != 'a store'
             out |= {text} | unused_facts(words) | corner_facts(words)
             out |= transfer_facts(STORE, words) & STORES if text == 'a store' else set()
     if is_open or left > 0 and records[-1][0] == STAT:
@@ -99,10 +101,11 @@ def facts_of(records: Sequence[Record]) -> FrozenSet[str]:
         out.add(LOAD)
     if records[-1][0] == STAT:
         return frozenset(out - {'an odd number of cells', CORNER} or {'nothing before it'})     # these matter in reads
+    out -= {'an odd number of cells'} if is_after else set()
+    out |= {AFTER} if is_after and not is_asked and 'a store' in out else set()
     is_asked = any(kind == GP1 and words[0] >> 24 & 0x3F > 15 for kind, _, words in records)
     if 'an open store' not in out and not is_asked:     # settings that no question asks for
         out -= {CORNER, *('E%Xh' % number for number in range(1, 7))}
-    out |= {AFTER} if is_after and 'a store' in out else set()
     if not is_asked and out.isdisjoint(('a store', 'an open store')):
         out.add(ASKED_NOTHING[LOAD in out])
     return frozenset(out)

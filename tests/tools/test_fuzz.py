@@ -173,7 +173,8 @@ class Parts(unittest.TestCase):
         store, read, status = (GP0, 3, (0xC0000000, 0, 0x00010003)), (READ, 2, ()), (STAT, 1, ())
         for records, facts in (
                 ([store, read], {'a store', 'an odd number of cells'}), ([store, status], {'an open store'}),
-                ([store, read, read], {'a store', 'an odd number of cells', 'a read after the words of a store'}),
+                ([store, read, read], {'a store', 'a read after the words of a store'}),
+                ([store, read, (GP1, 1, (0x10000003,)), read], {'a store', 'GP1(10h) 2 to 5'}),
                 ([store, read, status], {'a store'}), ([(GP0, 3, (2, 0, 1)), read], {'nop', 'no question before it'}),
                 ([(GP0, 3, (0xC0000000, 0, 1)), read], {'a store', 'size 0'}),
                 ([(GP0, 1, (0xE4080000,)), (GP1, 1, (0x10000004,)), read],
