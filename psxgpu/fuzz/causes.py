@@ -5,13 +5,16 @@ import itertools
 from dataclasses import replace
 from typing import Dict, FrozenSet, List, NamedTuple, Optional
 
-from psxgpu.fuzz.conditions import BLENDING, DEPTHS, INCIDENTAL, NO_CONDITIONS, ONE_MORE, VAGUE
-from psxgpu.fuzz.kinds import READS, STATUS, UNUSED, Kind, sentence
+from psxgpu.fuzz.conditions import BLENDING, DEPTHS, DRAWN, INCIDENTAL, NO_CONDITIONS, ONE_MORE, VAGUE
+from psxgpu.fuzz.kinds import CORNER, READS, STATUS, UNUSED, Kind, sentence
 from psxgpu.fuzz.rules import Samples
+from psxgpu.packets.grammar import COPY, FILL, LOAD
 from psxgpu.players.looks import ALONE, COLOURS, LOST, NOTHING, OUTSIDE, SHAPES, may_be_one, similar
 
 GENERAL = NO_CONDITIONS.union(DEPTHS, BLENDING)     # two causes may need the same one of these
 SEQUENCES, UNUSED_BITS = {READS, STATUS}, 'unused-bits'
+# What shows a difference in a sequence says nothing about its cause.
+SHOWING = frozenset(['a store', 'nop', *DRAWN, FILL, COPY, LOAD])
 PAIRS = [('x-flip', 'y-flip'), ('U below 0', 'V below 0'), ('U above 255', 'V above 255'),
          ('cut on the left', 'cut at the top'), ('cut on the right', 'cut at the bottom'),
          ('wider than 1023', 'higher than 511'), ('a negative offset X', 'a negative offset Y'),
@@ -58,10 +61,11 @@ def outside_rule(one: Kind, other: Kind) -> Optional[Facts]:
 
 def sequence_rule(one: Kind, other: Kind) -> Optional[Facts]:
     """Returns the same for a packet and a sequence that has such a packet: their player breaks down at both, or the
-    packet needs bits that mean nothing, which the sequence has, too."""
+    packet needs bits that mean nothing, or a corner of the area with ten bits of Y, which the sequence has, too."""
     packet, sequence = (one, other) if other.name in SEQUENCES else (other, one)
     is_lost = {packet.look, sequence.look} == {LOST} and packet.name in sequence.seed
-    return packet.rule if is_lost or UNUSED_BITS in packet.rule and packet.name + UNUSED in sequence.rule else None
+    is_unused = UNUSED_BITS in packet.rule and packet.name + UNUSED in sequence.rule
+    return packet.rule if is_lost or is_unused or CORNER in packet.rule & sequence.rule else None
 
 
 def mirrored_rule(one: Kind, other: Kind) -> Optional[Facts]:
@@ -73,12 +77,18 @@ def mirrored_rule(one: Kind, other: Kind) -> Optional[Facts]:
     return one.rule if is_told and (both[0] <= both[1] or both[1] <= both[0]) else None
 
 
+def is_one_sequence(one: Kind, other: Kind) -> bool:
+    """Returns whether two kinds of sequences may be one: both or none are about ten bits of Y, and what both need is
+    more than what shows it."""
+    return (CORNER in one.rule) == (CORNER in other.rule) and not one.rule & other.rule <= SHOWING
+
+
 def common_rule(one: Kind, other: Kind, samples: Samples) -> Optional[Facts]:
     """Returns the facts that one cause of two kinds needs; None if they are two causes.
 
     Of one packet, they are one cause if one needs all that the other needs, or if they look alike and share a
-    condition. Of two packets, if both need the same facts about the same rule. What else is one cause, experiments have
-    to show (`psxgpu.fuzz.asking`)."""
+    condition, about the same rule of docs/MACHINE.md. Of two packets, if both need the same facts about the same rule.
+    What else is one cause, experiments have to show (`psxgpu.fuzz.asking`)."""
     both, plain = one.rule & other.rule, [kind.rule - ONE_MORE for kind in (one, other)]
     names = {one.name, other.name}
     if len(names) > 1 and len(names & SEQUENCES) == 1:
@@ -89,10 +99,13 @@ def common_rule(one: Kind, other: Kind, samples: Samples) -> Optional[Facts]:
         return None
     if OUTSIDE in (one.look, other.look):
         return outside_rule(one, other)
+    if one.name in SEQUENCES and not is_one_sequence(one, other):
+        return None
     is_alike = other.look in similar(one.look)
     if plain[0] & plain[1] in plain:
         return both if is_case(one, other, samples) else None
-    is_told = any(fact not in GENERAL and not fact.startswith(INCIDENTAL) for fact in both)
+    is_told = one.name in SEQUENCES or one.decision == other.decision and any(
+        fact not in GENERAL and not fact.startswith(INCIDENTAL) for fact in both)
     return both if is_alike and is_told else mirrored_rule(one, other)
 
 

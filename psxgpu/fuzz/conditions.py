@@ -11,9 +11,10 @@ from psxgpu.packets.grammar import (COPY, FILL, LINE, LOAD, POLYGON, POLYLINE, Q
                                     TEXTURED, cells_of)
 from psxgpu.packets.known import Packet, has_colors, is_scaled, is_shaded_line, is_sloped
 from psxgpu.packets.parts import line_parts, polygon_parts, rectangle_parts, signed, texcoord_of, vertex_of
+from psxgpu.packets.texels import Box, texture_of
 from psxgpu.players.bench import Experiment, Words, registers_of
 from psxgpu.reduce.features import FEATURES, active, name_of
-from psxgpu.reduce.needs import offset_of
+from psxgpu.reduce.needs import target_of
 from psxgpu.reduce.plainer import segments
 from psxgpu.reduce.units import Unit
 
@@ -30,10 +31,11 @@ VAGUE = frozenset(['quad', 'polyline', 'semi-transparency', 'factor', 'shades', 
 # A packet of one row or column may be drawn nowhere.
 ONE_MORE = frozenset(['width above 1', 'height above 1'])
 # How conditions begin that are often there by chance.
-INCIDENTAL = 'width above', 'height above', 'an odd number', 'one c', 'sides off', 'longer than', 'a fixed', 'cut '
+INCIDENTAL = ('width above', 'height above', 'an odd number', 'one c', 'sides off', 'longer than', 'a fixed', 'cut ',
+              'a negative offset')
 # How conditions begin, and the feature that each has.
 HAVING = [('blending', 'semi-transparency'), *((begin, 'texture') for begin in (
-    'a scaled', 'an even U', 'U ', 'V ', 'a page', 'a palette', 'a window ', 'it is drawn', *DEPTHS))]
+    'a scaled', 'an even U', 'U ', 'V ', 'a page', 'a palette', 'a window ', 'its texels', 'its palette', *DEPTHS))]
 SETTINGS = range(0xE1, 0xE7)
 LOWER = (1, 16, 255, 511)               # sizes above these are conditions
 
@@ -158,24 +160,23 @@ def texture_facts(packet: Packet) -> Set[str]:
         'a page over the right edge': column * 64 + (64, 128, 256, 256)[depth] > 1024,
         'a palette over the right edge': depth < 2 and (clut & 63) * 16 + (16, 256)[depth] > 1024,
         'a palette from row 256': depth < 2 and bool(clut >> 6 & 256),
-        'it is drawn over its page': is_over_page(packet),
         'a window mask with a hole': any(m and m != 32 - (m & -m) for m in masks),
         'a window mask Y from 16': masks[1] > 15, 'a window mask X from 16': masks[0] > 15,
         'a window offset outside of its mask': bool(window >> 10 & 31 & ~masks[0] or window >> 15 & 31 & ~masks[1])})
 
 
-def is_over_page(packet: Packet) -> bool:
-    """Returns whether the box of a packet has cells of its texture page."""
-    mode, (ox, oy) = packet.registers[0xE1], offset_of(packet.registers)
-    points, (w, h) = [vertex_of(packet.words[1])], (1, 1)
-    if packet.name == RECTANGLE:
-        w, h = rectangle_parts(packet.words)[1]
-    else:
-        points = polygon_parts(packet.words)[0]
-    xs, ys = [x + ox for x, _ in points], [y + oy for _, y in points]
-    left, top = (mode & 15) * 64, (mode >> 4 & 1) * 256
-    right = left + (64, 128, 256, 256)[mode >> 7 & 3]
-    return min(xs) < right and max(xs) + w > left and min(ys) < top + 256 and max(ys) + h > top
+def meet(one: Box, other: Box) -> bool:
+    """Returns whether two boxes have a common cell. X is modulo 1024, Y modulo 512."""
+    (ax, ay, aw, ah), (bx, by, bw, bh) = one, other
+    return ((bx - ax) % 1024 < aw or (ax - bx) % 1024 < bw) and ((by - ay) % 512 < ah or (ay - by) % 512 < bh)
+
+
+def overwritten_facts(packet: Packet, drawn: Sequence[Words]) -> Set[str]:
+    """Returns whether packets write what the last of them reads: a player may have read it before."""
+    read = texture_of(*packet)
+    written = [box for words in drawn for box in target_of(name_of(words), words, packet.registers)] if read else []
+    return {text for text, box in zip(('its texels are overwritten', 'its palette is overwritten'), read)
+            if any(meet(box, other) for other in written)}
 
 
 def fill_facts(words: Words) -> Set[str]:
@@ -196,8 +197,7 @@ def transfer_facts(name: str, words: Words) -> Set[str]:
         bool((size & 0xFFFF) > 1024 or size >> 16 > 512)})
     if name == COPY:
         from_x, from_y = words[1] & 0x3FF, words[1] >> 16 & 0x1FF
-        meets = (((y - from_y) % 512 < h or (from_y - y) % 512 < h)
-                 and ((x - from_x) % 1024 < w or (from_x - x) % 1024 < w))
+        meets = meet((from_x, from_y, w, h), (x, y, w, h))
         out |= place_facts('its source', from_x, from_y, w, h) | holding({
             'it overlaps itself': meets, 'it overlaps itself to the right': meets and 0 < (x - from_x) % 1024 < w})
     return out
@@ -210,7 +210,7 @@ def conditions(experiment: Experiment) -> Facts:
     out: Set[str] = set()
     if name in DRAWN:
         packet = Packet(name, words, registers)
-        out = drawn_facts(packet) | texture_facts(packet)
+        out = drawn_facts(packet) | texture_facts(packet) | overwritten_facts(packet, drawing(experiment))
     elif name == FILL:
         out = fill_facts(words)
     elif name in (COPY, LOAD):

@@ -39,6 +39,12 @@ class New(NamedTuple):
     look: str
 
 
+def alone(one: Experiment) -> List[Experiment]:
+    """Returns each packet of an experiment of several that draw, with the settings."""
+    drawn = drawing(one)
+    return [(*one[:len(one) - len(drawn)], packet) for packet in drawn] if len(drawn) > 1 else []
+
+
 class Hunt:
     """One worker: two players on a ground of random cells, what it has seen, and the folder of kinds."""
 
@@ -113,7 +119,13 @@ class Hunt:
     def stray(self, experiments: Sequence[Experiment]) -> List[Differing]:
         """Returns the experiment of the last batch that changed cells outside of its boxes, if there is one."""
         at = self.bench.stray()
-        return [] if at is None else [(experiments[at], frozenset([OUTSIDE]))]
+        if at is None:
+            return []
+        for part in alone(experiments[at]):     # the packet that does it
+            self.bench.judge([part])
+            if self.bench.stray() is not None:
+                return [(part, frozenset([OUTSIDE]))]
+        return [(experiments[at], frozenset([OUTSIDE]))]
 
     def confirmed(self, found: Sequence[Differing]) -> Iterator[Differing]:
         """Yields those that differ again in another order: what an earlier one drew elsewhere is not their fault."""
@@ -126,9 +138,8 @@ class Hunt:
 
     def parts(self, one: Experiment, looks: FrozenSet[str]) -> Iterator[Differing]:
         """Yields an experiment that differs; of several packets that draw, the first one that differs alone."""
-        drawn = drawing(one)
-        alone = [(*one[:len(one) - len(drawn)], packet) for packet in drawn] if len(drawn) > 1 else []
-        found = [(part, verdict.looks) for part, verdict in zip(alone, self.bench.judge(alone)) if verdict.differs]
+        parts = alone(one)
+        found = [(part, verdict.looks) for part, verdict in zip(parts, self.bench.judge(parts)) if verdict.differs]
         yield found[0] if found else (one, looks)
 
     def taken(self, one: Experiment, looks: FrozenSet[str]) -> List[New]:

@@ -16,6 +16,9 @@ from psxgpu.reduce.features import name_of
 
 KINDS = 'kinds'
 STATUS, READS = 'status', 'reads'        # names of kinds that are no packets
+AFTER = 'a read after the words of a store'         # facts of reads
+ASKED_NOTHING = 'no question before it', 'a load and no question before it'
+CORNER = 'an area corner with Y above 511'          # a fact of packets, too
 UNUSED = ' with bits that mean nothing'  # a fact of a sequence: after the name of a packet
 KEPT = 10                   # batches after which a worker keeps what it has seen
 MOST_WORDS = 30             # of a capture; more are remarked
@@ -27,12 +30,13 @@ TEXTS = {'unused-bits': 'bits that mean nothing', 'factor': 'a factor', 'texture
          'forced-mask': 'forced mask bits', 'tested-mask': 'tested mask bits'}
 # How a fact begins, and facts that it implies.
 IMPLIED = [(begin, ('texture', 'depth', 'page')) for begin in (
-    'a scaled', 'a page', 'a palette', 'U ', 'V ', 'an even U', 'a window', 'it is drawn', 'depth 3', '4-bit', '8-bit',
-    '15-bit')] + [
+    'a scaled', 'a page', 'a palette', 'U ', 'V ', 'an even U', 'a window', 'its texels', 'its palette', 'depth 3',
+    '4-bit', '8-bit', '15-bit')] + [
     ('several colours', ('shades',)), ('blending', ('semi-transparency', 'blend-mode')),
     ('a sum beyond', ('offset',)), ('an offset', ('offset',)), ('a negative offset', ('offset', 'an offset Y')),
     ('a window', ('window',)), ('a tie', ('sloped', 'longer than a cell')), ('steep', ('longer than a cell',)),
-    ('an unfinished load', ('load',)), ('sloped', ('longer than a cell',)),
+    ('an unfinished load', ('load',)), ('a read after', ('a store',)), ('a load and', ('load',)),
+    ('sloped', ('longer than a cell',)),
     ('it overlaps itself to', ('it overlaps itself',))]
 
 

@@ -188,6 +188,8 @@ class Maker:
         elif way == 3 and name_of(last) == POLYGON and last[0] >> 24 & TEXTURED:
             at = 5 if last[0] >> 24 & SHADED else 4     # the page of a textured polygon
             out[-1] = (*last[:at], last[at] ^ 0x10000 << r.randrange(9), *last[at + 1:])
+        elif way == 3 and name_of(last) == RECTANGLE and last[0] >> 24 & TEXTURED and r.random() < 0.3:
+            out[-1] = (*last[:2], last[2] ^ 0x10000 << r.randrange(15), *last[3:])      # the place of its palette
         elif way == 3:
             at = setting(old, 0xE1)
             out[at] = (old[at][0] ^ 1 << r.randrange(14),)

@@ -50,7 +50,7 @@ def told(fact: str, seen: Sequence[Seen]) -> float:
 def most_telling(seen: Sequence[Seen], facts: Iterable[str]) -> Optional[str]:
     """Returns the fact that tells most, or None."""
     values = {fact: told(fact, seen) for fact in facts}
-    best = max(sorted(values), key=lambda fact: values[fact], default=None)
+    best = max(sorted(values), key=lambda fact: (values[fact], fact.endswith('overwritten')), default=None)
     return best if best and values[best] else None
 
 

@@ -8,7 +8,7 @@ from typing import FrozenSet, Iterable, Iterator, List, NamedTuple, Optional, Se
 from psxgpu.command import ToolError
 from psxgpu.fuzz.conditions import transfer_facts
 from psxgpu.fuzz.hunt import Hunt
-from psxgpu.fuzz.kinds import READS, STATUS, UNUSED, Kind
+from psxgpu.fuzz.kinds import AFTER, ASKED_NOTHING, CORNER, READS, STATUS, UNUSED, Kind
 from psxgpu.output import Content
 from psxgpu.packets.grammar import (COPY, LINE, LOAD, POLYLINE, STORE, data_words, ends_polyline,
                                     name_and_length)
@@ -27,7 +27,8 @@ ALL = 0xFFFFFFFF            # bits
 ENDS: Record = (GP1, 1, (0,))
 CUT, INTERLACED = (0x28, 0x48, 0xA0), 0x08000024     # opcodes that are cut; the mode of 480 lines
 SETTINGS, IRQ = 7, 0x1F     # the upper three bits of E0h to FFh; the opcode that sets status bit 24
-STORES = frozenset(['width 0', 'height 0', 'an odd number of cells', 'size bits above its fields'])
+STORES = frozenset(['size 0', 'an odd number of cells', 'size bits above its fields'])
+CORNERS, TENTH = (0xE3, 0xE4), 1 << 19       # the tenth bit of a corner's Y
 SIZES = (0x00000001, 0x00010000, 0x02010001, 0x00010401)      # of stores: 0, and with bits above the fields
 
 
@@ -71,31 +72,43 @@ def unused_facts(words: Sequence[int]) -> Set[str]:
     return {name + UNUSED} if name in (COPY, LOAD, STORE) and words[0] >> 24 & 0x1F else set()
 
 
+def corner_facts(words: Sequence[int]) -> Set[str]:
+    """Returns whether a corner of the drawing area has a tenth bit of Y."""
+    return {CORNER} if words[0] >> 24 in CORNERS and words[0] & TENTH else set()
+
+
 def facts_of(records: Sequence[Record]) -> FrozenSet[str]:
     """Returns what a sequence has: control words, packets, and what is unfinished."""
     out: Set[str] = set()
     left, is_open = 0, False        # words of a store, and whether another word comes before them
+    is_after = is_asked = False     # the last read is none of a store, and a question came after the last store
     for kind, count, words in records:
         is_open |= left > 0 and kind in (GP0, GP1)
         if kind == GP1:
             out |= control_facts(words[0])
             left = left if words[0] >> 24 & 0x3F > 1 else 0
+            is_asked |= words[0] >> 24 & 0x3F > 15
         elif kind == READ:
-            left -= count
+            is_after, left = left < count, left - count
         elif kind == GP0:
             text, left = packet_facts(words)
-            out |= {text} | unused_facts(words)
+            is_asked &= text != 'a store'
+            out |= {text} | unused_facts(words) | corner_facts(words)
             out |= transfer_facts(STORE, words) & STORES if text == 'a store' else set()
     if is_open or left > 0 and records[-1][0] == STAT:
         out = out - {'a store', 'an odd number of cells'} | {'an open store'}
     if 'an unfinished load' in out:
         out.add(LOAD)
     if records[-1][0] == STAT:
-        out -= {'an odd number of cells'}       # which matters in what is read
-    elif 'an open store' not in out and not any(kind == GP1 and words[0] >> 24 & 0x3F > 15
-                                                for kind, _, words in records):
-        out -= {'E%Xh' % number for number in range(1, 7)}      # settings that no question asks for
-    return frozenset(out or {'nothing before it'})
+        return frozenset(out - {'an odd number of cells', CORNER} or {'nothing before it'})     # these matter in reads
+    out -= {'an odd number of cells'} if is_after else set()
+    out |= {AFTER} if is_after and not is_asked and 'a store' in out else set()
+    is_asked = any(kind == GP1 and words[0] >> 24 & 0x3F > 15 for kind, _, words in records)
+    if 'an open store' not in out and not is_asked:     # settings that no question asks for
+        out -= {CORNER, *('E%Xh' % number for number in range(1, 7))}
+    if not is_asked and out.isdisjoint(('a store', 'an open store')):
+        out.add(ASKED_NOTHING[LOAD in out])
+    return frozenset(out)
 
 
 def bits_text(name: str, bits: int) -> str:
@@ -178,8 +191,8 @@ class Reading:
             yield GP0, cut, tuple(packet[:cut])
         elif way == 4:
             size = r.choice((1, 1, 2, 3, 5)) | r.choice((1, 1, 2, 3)) << 16
-            if r.random() < 0.1:        # cells that are not 0 tell what is stored
-                size = r.choice(SIZES)
+            size = r.choice(SIZES) if r.random() < 0.1 else size
+            if r.random() < 0.3:        # cells that are not 0 tell what is stored
                 yield GP0, 3, (0x02000000 | r.getrandbits(24), 0, 0x01FF03FF)
             yield GP0, 3, (0xC0000000, r.randrange(600) | r.randrange(400) << 16, size)
             yield READ, r.choice((data_words(size), r.randrange(1, data_words(size) + 2))), ()

@@ -33,7 +33,8 @@ class Case(NamedTuple):
 # The first line that fits counts.
 RULES: List[Tuple[Callable[[Case], bool], str, str, str]] = [
     (lambda it: it.has('unused-bits'), OWN, 'GP0 words and packets', 'bits of an opcode without a meaning'),
-    (lambda it: it.has('an earlier packet'), OWN, 'Textures', 'there is no cache'),
+    (lambda it: it.has('an earlier packet', 'its texels are overwritten', 'its palette is overwritten'), OWN,
+     'Textures', 'there is no cache'),
     (lambda it: it.has('a sum beyond eleven bits'), OWN, 'Where a primitive draws', 'sums with the offset do not wrap'),
     (lambda it: it.has('wider than 1023', 'higher than 511') and it.name in (POLYGON, LINE), SPX,
      'Where a primitive draws', 'the size rule'),
@@ -71,7 +72,8 @@ RULES: List[Tuple[Callable[[Case], bool], str, str, str]] = [
     (lambda it: it.name == LINE, OWN, 'Lines', 'which points: to the nearest, ties to the greater'),
     (lambda it: it.name == RECTANGLE, SPX, 'Rectangles', 'corner and size'),
     (lambda it: it.name == 'status', OWN, 'The status word', 'what each bit says, and when'),
-    (lambda it: it.name == 'reads' and it.has('nothing before it', 'an unfinished load'), OWN,
+    (lambda it: it.name == 'reads' and it.has('no question before it', 'a load and no question before it',
+                                              'an unfinished load', 'a read after the words of a store'), OWN,
      'Copies, loads and stores', 'a read without a store returns the latch, which is 0 at first'),
     (lambda it: it.name == 'reads', SPX, 'Registers', 'what a read returns')]
 ANY = Decision(OWN, 'GP0 words and packets', 'what has no name does nothing')

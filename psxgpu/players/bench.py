@@ -11,7 +11,7 @@ from itertools import takewhile
 from typing import Dict, FrozenSet, Iterator, List, NamedTuple, Optional, Sequence, Tuple
 
 from psxgpu.command import ToolError
-from psxgpu.packets.grammar import LINE, LOAD, name_and_length
+from psxgpu.packets.grammar import LINE, LOAD, POLYLINE, SHADED, name_and_length
 from psxgpu.packets.known import Packet, is_far
 from psxgpu.packets.parts import signed
 from psxgpu.packets.split import Splitter
@@ -32,8 +32,9 @@ RESET = (GP1 << 24 | 1, 0)
 DROP = (GP1 << 24 | 1, 0x01000000)          # ends what is unfinished
 IDLE = (0,) * 12                # ends packets of a player that keeps them unfinished
 REGISTERS = range(0xE1, 0xE7)
+PLAIN_LINE = 0x40
 CLEAR = 0x01000000              # empties the caches of players that have some
-TENTH, LOWEST, LAST = 1 << 19, 511 << 10, 0x7FFFF   # of E4h: the tenth bit of the last row, the last row, all cells
+TENTH, LOWEST, LAST = 1 << 19, 1023 << 10, 0x7FFFF     # of E4h: the tenth bit of the last row, all ten, all cells
 Words = Tuple[int, ...]
 Experiment = Tuple[Words, ...]
 Boxes = Tuple[List[Box], List[Box]]
@@ -83,6 +84,9 @@ def wrapped_targets(name: str, words: Sequence[int], registers: Dict[int, int]) 
     if they have more; at the size of video memory, if it is drawn nowhere in it."""
     if name not in DRAWN or len(words) > SEGMENT and name == LINE:
         return []
+    if name == LINE and words[0] >> 24 & POLYLINE:
+        ends = (2, 4) if len(words) == SEGMENT else (1, 3) if words[0] >> 24 & SHADED else (1, 2)
+        words = PLAIN_LINE << 24, *(words[at] for at in ends)
     bits = 11, 11
     if not is_far(Packet(name, words, registers)):
         if target_of(name, words, {**registers, 0xE3: 0, 0xE4: LAST}):
@@ -102,7 +106,7 @@ def targets(name: str, words: Sequence[int], registers: Dict[int, int], lower: S
     yield from target_of(name, words, registers)
     yield from wrapped_targets(name, words, registers)
     for word in lower:
-        yield from target_of(name, words, {**registers, 0xE4: word & 0x7FFFF})
+        yield from target_of(name, words, {**registers, 0xE4: word & 0xFFFFF})
 
 
 @lru_cache(4096)
@@ -201,7 +205,7 @@ class Bench:
         def differ(count: int) -> bool:
             data = self.capture(experiments[:count], boxes[:count])
             mine, theirs = (dump_of(player.run('vram', data, self.seconds)) for player in (self.ours, self.theirs))
-            return mine != theirs
+            return theirs is not None and mine != theirs        # a player that breaks down has no dump
         found = bisect(len(experiments), differ)
         return found - 1 if found else None
 

@@ -22,7 +22,7 @@ from psxgpu.fuzz.rules import Samples
 from psxgpu.output import Content
 from psxgpu.packets import deciders
 from psxgpu.packets.generated import CLASSES
-from psxgpu.players.bench import LOST, Bench, DumpBench
+from psxgpu.players.bench import LOST, Bench, DumpBench, boxes_of
 from psxgpu.players.looks import LOST as BROKEN
 from psxgpu.players.looks import ALONE, BIT_15, COLOURS, EDGES, NOTHING, OTHERS, STEP, may_be_one
 from psxgpu.players.named import Done, Player, player_of
@@ -45,6 +45,24 @@ class Parts(unittest.TestCase):
         self.assertLessEqual({'x-flip', 'an even U', 'texture', 'U below 0'}, facts_of(FLIPPED))
         self.assertNotIn('y-flip', facts_of(FLIPPED))
         self.assertIn('an earlier packet', facts_of((*FLIPPED, FLIPPED[-1])))
+
+    def test_what_is_overwritten(self):
+        """A rectangle on its palette or texels, X modulo 1024, or after a packet that is. Another place is not."""
+        def found(place, mode, coord, *before):
+            facts = facts_of(packed([(0xE1000000 | mode,), *before, (0x65000000, place, coord, 0x00010010)]))
+            return {fact for fact in facts if fact.endswith('overwritten')}
+        texels, palette, far = {'its texels are overwritten'}, {'its palette is overwritten'}, 0x40000000
+        self.assertEqual(found(0, 8, 0), palette)
+        self.assertEqual(found(512, 8, far), texels)
+        self.assertEqual(found(600, 8, far), set())
+        self.assertEqual(found(36, 0x8F, far | 200), texels)
+        self.assertEqual(found(600, 8, far, (0x02000000, 512, 0x00100010)), texels)
+        self.assertEqual(found(600, 8, 0, (0xA0000000, 0, 0x00010002, 0)), palette)
+
+    def test_boxes_of_sums(self):
+        """The sums of a polyline's Y are -2017, -2040 and -2016: 31, 8 and 32 with eleven bits. X is 710 and 711."""
+        line = packed([(0xE52001FE,), (0x58FFFFFF, 0x041F00C9, 0, 0x040800C8, 0, 0x042000C8, 0x55555555)])
+        self.assertEqual(boxes_of(line), ([(708, 6, 713, 34)], []))
 
     def test_what_conditions_have(self):
         self.assertEqual(closed(frozenset(['an even U', 'a tie'])), {'an even U', 'a tie', 'texture'})
@@ -129,12 +147,40 @@ class Parts(unittest.TestCase):
         self.assertEqual(sorted(sorted(cause.keys) for cause in found), [['a', 'b'], ['c'], ['d'], ['e', 'f']])
         self.assertEqual(len(causes({key: kinds[key] for key in 'eg'}, Samples())), 2)
 
+    def test_causes_of_two_rules(self):
+        """An even U may be there by chance in a rectangle that is drawn over its palette."""
+        kinds = {'a': kind('rectangle', ['x-flip', 'an even U', 'texture'], COLOURS),
+                 'b': kind('rectangle', ['an even U', 'its palette is overwritten', 'texture'], COLOURS),
+                 'c': kind('rectangle', ['an even U', 'U below 0', 'x-flip', 'y-flip', 'texture'], COLOURS)}
+        found = causes({key: kinds[key] for key in 'ab'}, Samples())
+        self.assertEqual([cause.keys for cause in found], [['a'], ['b']])
+        self.assertEqual(len(causes({key: kinds[key] for key in 'ac'}, Samples())), 1)
+
+    def test_causes_of_sequences(self):
+        """A store and the packet whose cells it reads only show a difference. Ten bits of a corner's Y are a cause of
+        their own, also where a packet shows them."""
+        corner = 'an area corner with Y above 511'
+        kinds = {'a': kind('reads', ['a store', 'fill', 'an odd number of cells']),
+                 'b': kind('reads', ['a store', 'load', 'an odd number of cells']),
+                 'c': kind('reads', ['a store', 'load', 'size 0']),
+                 'd': kind('reads', ['E3h', 'GP1(10h) 2 to 5']), 'e': kind('reads', ['E2h', 'GP1(10h) 2 to 5']),
+                 'f': kind('reads', ['E3h', 'GP1(10h) 2 to 5', corner]), 'g': kind('rectangle', [corner], ALONE)}
+        found = causes(kinds, Samples())
+        self.assertEqual(sorted(sorted(cause.keys) for cause in found), [['a', 'b'], ['c'], ['d', 'e'], ['f', 'g']])
+
     def test_sequences(self):
         """What is open, unfinished or asked for in a sequence of records."""
         store, read, status = (GP0, 3, (0xC0000000, 0, 0x00010003)), (READ, 2, ()), (STAT, 1, ())
         for records, facts in (
                 ([store, read], {'a store', 'an odd number of cells'}), ([store, status], {'an open store'}),
-                ([store, (GP0, 1, (0xE1000000,)), read], {'an open store', 'E1h'}), ([read], {'nothing before it'}),
+                ([store, read, read], {'a store', 'a read after the words of a store'}),
+                ([store, read, (GP1, 1, (0x10000003,)), read], {'a store', 'GP1(10h) 2 to 5'}),
+                ([store, read, status], {'a store'}), ([(GP0, 3, (2, 0, 1)), read], {'nop', 'no question before it'}),
+                ([(GP0, 3, (0xC0000000, 0, 1)), read], {'a store', 'size 0'}),
+                ([(GP0, 1, (0xE4080000,)), (GP1, 1, (0x10000004,)), read],
+                 {'E4h', 'GP1(10h) 2 to 5', 'an area corner with Y above 511'}),
+                ([(GP0, 4, (0xA0000000, 0, 0x10001, 0)), read], {'load', 'a load and no question before it'}),
+                ([store, (GP0, 1, (0xE1000000,)), read], {'an open store', 'E1h'}), ([read], {'no question before it'}),
                 ([(GP0, 2, (0x20000000, 0)), status], {'an unfinished packet'}),
                 ([(GP1, 1, (0x10000003,)), read], {'GP1(10h) 2 to 5'}),
                 ([(GP0, 4, (0x81000000, 0, 0, 1)), status], {'copy', 'copy with bits that mean nothing'}),
