@@ -15,6 +15,7 @@ GENERAL = NO_CONDITIONS.union(DEPTHS, BLENDING)     # two causes may need the sa
 SEQUENCES, UNUSED_BITS = {READS, STATUS}, 'unused-bits'
 # What shows a difference in a sequence says nothing about its cause.
 SHOWING = frozenset(['a store', 'nop', *DRAWN, FILL, COPY, LOAD])
+UNFINISHED = [['an unfinished load'], ['an unfinished packet']]
 PAIRS = [('x-flip', 'y-flip'), ('U below 0', 'V below 0'), ('U above 255', 'V above 255'),
          ('cut on the left', 'cut at the top'), ('cut on the right', 'cut at the bottom'),
          ('wider than 1023', 'higher than 511'), ('a negative offset X', 'a negative offset Y'),
@@ -79,8 +80,16 @@ def mirrored_rule(one: Kind, other: Kind) -> Optional[Facts]:
 
 def is_one_sequence(one: Kind, other: Kind) -> bool:
     """Returns whether two kinds of sequences may be one: both or none are about ten bits of Y, and what both need is
-    more than what shows it."""
-    return (CORNER in one.rule) == (CORNER in other.rule) and not one.rule & other.rule <= SHOWING
+    more than what shows it. What draws shows cells, and sets bits of the status itself."""
+    showing = SHOWING.difference(DRAWN) if one.name == STATUS else SHOWING
+    return (CORNER in one.rule) == (CORNER in other.rule) and not one.rule & other.rule <= showing
+
+
+def unfinished_rule(one: Kind, other: Kind) -> Optional[Facts]:
+    """Returns the same for two kinds of the same bits of the status, in an unfinished packet and in an unfinished
+    load."""
+    is_told = one.name == STATUS and one.look == other.look
+    return one.rule if is_told and sorted(sorted(kind.rule - {LOAD}) for kind in (one, other)) == UNFINISHED else None
 
 
 def common_rule(one: Kind, other: Kind, samples: Samples) -> Optional[Facts]:
@@ -100,7 +109,7 @@ def common_rule(one: Kind, other: Kind, samples: Samples) -> Optional[Facts]:
     if OUTSIDE in (one.look, other.look):
         return outside_rule(one, other)
     if one.name in SEQUENCES and not is_one_sequence(one, other):
-        return None
+        return unfinished_rule(one, other)
     is_alike = other.look in similar(one.look)
     if plain[0] & plain[1] in plain:
         return both if is_case(one, other, samples) else None

@@ -168,6 +168,19 @@ class Parts(unittest.TestCase):
         found = causes(kinds, Samples())
         self.assertEqual(sorted(sorted(cause.keys) for cause in found), [['a', 'b'], ['c'], ['d', 'e'], ['f', 'g']])
 
+    def test_causes_in_the_status(self):
+        """A packet that draws sets bits of the status itself, but only shows what is read. The same bits in an unfinished
+        packet and load are one cause; other bits are not, nor is a load that GP1(01h) cuts."""
+        load = ['load', 'an unfinished load']
+        kinds = {'a': kind('status', ['polygon'], 'bit 9'), 'b': kind('status', ['polygon'], 'bits 10, 15'),
+                 'c': kind('reads', ['polygon', 'a store']), 'd': kind('reads', ['polygon', 'GP1(10h) 7']),
+                 'e': kind('status', ['an unfinished packet'], 'bit 26'), 'f': kind('status', load, 'bit 26'),
+                 'g': kind('status', [*load, 'E6h', 'GP1(01h)'], 'bit 12')}
+        found = causes(kinds, Samples())
+        self.assertEqual(sorted(sorted(cause.keys) for cause in found), [['a', 'b'], ['c'], ['d'], ['e', 'f'], ['g']])
+        kinds['f'] = kind('status', load, 'bit 28')
+        self.assertEqual(len(causes({key: kinds[key] for key in 'ef'}, Samples())), 2)
+
     def test_sequences(self):
         """What is open, unfinished or asked for in a sequence of records."""
         store, read, status = (GP0, 3, (0xC0000000, 0, 0x00010003)), (READ, 2, ()), (STAT, 1, ())
