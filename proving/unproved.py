@@ -14,10 +14,11 @@ import subprocess
 import sys
 import tempfile
 import time
-from typing import BinaryIO, List, Tuple
+from typing import IO, BinaryIO, List, Tuple
 
 from proving.plan import ROOT
-from psxgpu.packing import Damaged, pour, unpacked
+from psxgpu.command import pour
+from psxgpu.packing import Damaged, unpacked
 
 CRATE = os.path.join(ROOT, 'crates', 'psxgpu_tool')
 MOST_SECONDS = 600
@@ -25,7 +26,7 @@ NO_ANSWER = 7
 NOT_PROVED = 'This build is not proved. It stops at an index out of bounds or an overflow, and checks no contract.'
 
 
-def play(words: List[str], capture: BinaryIO, out: BinaryIO) -> Tuple[int, str]:
+def play(words: List[str], capture: IO[bytes], out: BinaryIO) -> Tuple[int, str]:
     """Plays a capture. Returns the program's status, and what it and `rt try` said."""
     done = subprocess.run(['rt', 'try', '--seconds', str(MOST_SECONDS), '--', *words], cwd=CRATE, stdin=capture,
                           stdout=out, stderr=subprocess.PIPE, text=True, errors='replace', check=False)
